@@ -1,0 +1,221 @@
+-- A question on a table that a build wrote answers the types' own numbers.
+use mathlib.Core.Path.{_≡_, refl, ap, fun-ext}
+use mathlib.Core.Bool.{Bool, true, false, cond, _||_}
+use mathlib.Core.List.{List, [], _∷_, _++_, map}
+use mathlib.Core.Option.{Option, none, some}
+use Prim.Native.Nat.{ℕ, zero, suc, _+_, _-_, _*_, _≤_, _<_}
+use native.Mathlib.Omega.{arith}
+use lib.Dec.{leb, ltb}
+use lib.ListN.{length, getD, take, drop, getElem?, length-map, length-append}
+use borrow.Author.Tests.{ltb-true, ltb-false}
+use Rattle.canon.specs.Answer.{Leaf, is, no as refuses, lift, lift2, badRef, tooLarge}
+use Rattle.canon.specs.Types.{Ty, recordOf, variantOf, listOf, tupleOf, mapOf, flagsOf, enumOf, optionOf, resultOf, fixedOf}
+use Rattle.canon.specs.Layout.{mem32, mem64}
+use Rattle.canon.specs.Placement.{Every}
+use Rattle.canon.specs.Row.{Info, rowOf}
+use Rattle.canon.specs.Table.{capacity, cellsFrom, putRows}
+use Rattle.canon.specs.Description.{
+  plain,
+  reference,
+  caseOf,
+  membersOf,
+  casesOf,
+  Kind,
+  kRecord,
+  kVariant,
+  kList,
+  kTuple,
+  kMap,
+  kFlags,
+  kEnum,
+  kOption,
+  kResult,
+  kFixed,
+  kindOf,
+  bodyLength,
+  isBadCount,
+  typeOf,
+  isTooLarge,
+  Defined,
+  fitted,
+  bodied,
+  define,
+  follow,
+  buildFrom,
+  build,
+  built,
+  mostWords,
+  tableAfter,
+}
+use Rattle.canon.specs.Question.{plainInfo, readRow, read}
+use Rattle.canon.proofs.Tests.{impossible}
+use Rattle.canon.proofs.Cells.{room-fits, length-putRows, row-at}
+use Rattle.canon.proofs.Rows.{Definition, row-good, row-back}
+
+-- What a description accepts is a definition
+
+lifted : {A : Type 0} (f : A → Ty) (o : Option A) (t : Ty) → ((a : A) → Definition (f a)) → lift f o ≡ some t → Definition t
+lifted f none t d e = impossible (cc)
+lifted f (some a) t d e = let p : f a ≡ t = cc in rw (← p) (d a)
+
+lifted2 : {A B : Type 0} (f : A → B → Ty) (o : Option A) (q : Option B) (t : Ty) → ((a : A) (b : B) → Definition (f a b)) → lift2 f o q ≡ some t → Definition t
+lifted2 f none q t d e = impossible (cc)
+lifted2 f (some a) q t d e = lifted (f a) q t (d a) e
+
+typeOf-definition : (ts : List Ty) (k : Kind) (b : List ℕ) (t : Ty) → typeOf ts k b ≡ some t → Definition t
+unfolding typeOf
+typeOf-definition ts kRecord b t e = lifted recordOf (membersOf ts (drop 1 b)) t (λ a. omega arith) e
+typeOf-definition ts kVariant b t e = lifted variantOf (casesOf ts (drop 1 b)) t (λ a. omega arith) e
+typeOf-definition ts kList b t e = lifted listOf (reference ts (getD b 0 0)) t (λ a. omega arith) e
+typeOf-definition ts kTuple b t e = lifted tupleOf (membersOf ts (drop 1 b)) t (λ a. omega arith) e
+typeOf-definition ts kMap b t e = lifted2 mapOf (reference ts (getD b 0 0)) (reference ts (getD b 1 0)) t (λ a c. omega arith) e
+typeOf-definition ts kFlags b t e = let p : flagsOf (getD b 0 0) ≡ t = cc in rw (← p) (omega arith)
+typeOf-definition ts kEnum b t e = let p : enumOf (getD b 0 0) ≡ t = cc in rw (← p) (omega arith)
+typeOf-definition ts kOption b t e = lifted optionOf (reference ts (getD b 0 0)) t (λ a. omega arith) e
+typeOf-definition ts kResult b t e = lifted2 resultOf (caseOf ts (getD b 0 0)) (caseOf ts (getD b 1 0)) t (λ a c. omega arith) e
+typeOf-definition ts kFixed b t e = lifted (λ a. fixedOf a (getD b 1 0)) (reference ts (getD b 0 0)) t (λ a. omega arith) e
+
+passed : (b : Bool) (x : ℕ) (l : Leaf Defined) (d : Defined) → cond b (refuses x) l ≡ is d → l ≡ is d
+passed true x l d e = impossible (cc)
+passed false x l d e = e
+
+fitted-definition : (ts : List Ty) (k : Kind) (b : List ℕ) (n : ℕ) (o : Option Ty) (d : Defined) → typeOf ts k b ≡ o → fitted n o ≡ is d → Definition (d .type)
+unfolding fitted
+fitted-definition ts k b n none d e h = impossible (cc)
+fitted-definition ts k b n (some t) d e h =
+    let p : _≡_ {A = Leaf Defined} (is (record { type = t; length = n })) (is d) = passed (isTooLarge mem32 t || isTooLarge mem64 t) tooLarge _ d h in
+    let q : record { type = t; length = n } ≡ d = cc in
+    let r : t ≡ d .type = ap (λ (x : Defined). x .type) q in
+    rw (← r) (typeOf-definition ts k b t e)
+
+define-definition : (ts : List Ty) (o : Option Kind) (ws : List ℕ) (d : Defined) → bodied ts o ws ≡ is d → Definition (d .type)
+unfolding bodied
+define-definition ts none ws d h = impossible (cc)
+define-definition ts (some k) ws d h =
+    fitted-definition ts k (take (bodyLength k (getD ws 0 0)) ws) (bodyLength k (getD ws 0 0)) _ d refl
+    (passed (isBadCount k (getD ws 0 0)) _ _ d (passed (ltb (length ws) (bodyLength k (getD ws 0 0))) _ _ d h))
+
+-- what a build keeps true at each definition, of the room left and the types so far, holds at its end
+pub build-keeps :
+    (P : ℕ → List Ty → Type 0) →
+    ((room : ℕ) (ts : List Ty) (w : ℕ) (ws : List ℕ) (d : Defined) → define ts w ws ≡ is d → P (suc room) ts → P room (ts ++ d .type ∷ [])) →
+    (room : ℕ) (ts : List Ty) (ws : List ℕ) → P room ts → (left : ℕ) × P left (buildFrom room ts ws .types)
+unfolding buildFrom
+build-keeps P step zero ts [] h = (zero, h)
+build-keeps P step zero ts (w ∷ ws) h = (zero, h)
+build-keeps P step (suc room) ts [] h = (suc room, h)
+build-keeps P step (suc room) ts (w ∷ ws) h =
+    go (define ts w ws) refl (λ ts′ ws′ h′. build-keeps P step room ts′ ws′ h′)
+  where
+    go :
+        (l : Leaf Defined) → define ts w ws ≡ l →
+        ((ts′ : List Ty) (ws′ : List ℕ) → P room ts′ → (left : ℕ) × P left (buildFrom room ts′ ws′ .types)) →
+        (left : ℕ) × P left (follow ts ws l (λ ts′ ws′. buildFrom room ts′ ws′) .types)
+    go (is d) e more = more (ts ++ d .type ∷ []) (drop (d .length) ws) (step room ts w ws d e h)
+    go (refuses x) e more = (suc room, h)
+
+every-snoc : (ts : List Ty) (t : Ty) → Every Definition ts → Definition t → Every Definition (ts ++ t ∷ [])
+every-snoc [] t v d = (d, tt)
+every-snoc (u ∷ ts) t v d = (v .0, every-snoc ts t (v .1) d)
+
+-- definitions, and as many as there is room for at most
+pub record Sound (room : ℕ) (ts : List Ty) : Type 0 where
+  pub definitions : Every Definition ts
+  pub fits : length ts ≤ room
+
+abbrev Keeps : ℕ → ℕ → List Ty → Type 0
+Keeps room left ts = Every Definition ts × (left + length ts ≤ room)
+
+keeps-step : (room left : ℕ) (ts : List Ty) (w : ℕ) (ws : List ℕ) (d : Defined) → define ts w ws ≡ is d → Keeps room (suc left) ts → Keeps room left (ts ++ d .type ∷ [])
+keeps-step room left ts w ws d e h =
+    (every-snoc ts (d .type) (h .0) (define-definition ts (kindOf w) ws d e), omega (arith, length-append ts (d .type ∷ [])))
+
+pub built-sound : (ws t : List ℕ) → Sound (capacity (length t)) (built ws t .types)
+unfolding build
+built-sound ws t = go (capacity (length t)) (ltb mostWords (length ws))
+  where
+    go : (room : ℕ) (b : Bool) → Sound room (cond b (record { types = []; stopped = some 1 }) (buildFrom room [] ws) .types)
+    go room true = record { definitions = tt; fits = omega arith }
+    go room false =
+        let r = build-keeps (Keeps room) (keeps-step room) room [] ws (tt, omega arith) in
+        record { definitions = r .1 .0; fits = omega (arith, r .1 .1) }
+
+-- The rows read back
+
+every-sixteen : (ts : List Ty) → Every (λ r. length r ≡ 16) (map rowOf ts)
+unfolding rowOf
+every-sixteen [] = tt
+every-sixteen (t ∷ ts) = (refl, every-sixteen ts)
+
+-- the type that stands at a place
+pub record At (ts : List Ty) (j : ℕ) : Type 0 where
+  pub type : Ty
+  pub found : getElem? ts j ≡ some type
+  pub row : getD (map rowOf ts) j [] ≡ rowOf type
+  pub definition : Definition type
+
+at : (ts : List Ty) (j : ℕ) → Every Definition ts → j < length ts → At ts j
+at [] j w h = absurd (omega arith)
+at (t ∷ ts) zero w h = record { type = t; found = refl; row = refl; definition = w .0 }
+at (t ∷ ts) (suc j) w h =
+    let r = at ts j (w .1) (omega arith) in
+    record { type = r .type; found = r .found; row = r .row; definition = r .definition }
+
+found-take : (ts : List Ty) (n j : ℕ) → j < n → getElem? (take n ts) j ≡ getElem? ts j
+found-take [] zero j h = absurd (omega arith)
+found-take [] (suc n) j h = refl
+found-take (t ∷ ts) zero j h = absurd (omega arith)
+found-take (t ∷ ts) (suc n) zero h = refl
+found-take (t ∷ ts) (suc n) (suc j) h = found-take ts n j (omega arith)
+
+lost-take : (ts : List Ty) (n j : ℕ) → n ≤ j → getElem? (take n ts) j ≡ none
+lost-take [] zero j h = refl
+lost-take [] (suc n) j h = refl
+lost-take (t ∷ ts) zero j h = refl
+lost-take (t ∷ ts) (suc n) zero h = absurd (omega arith)
+lost-take (t ∷ ts) (suc n) (suc j) h = lost-take ts n j (omega arith)
+
+-- what a reference to the types ts gives
+abbrev pub typeInfo : List Ty → ℕ → Leaf Info
+typeInfo ts w = plainInfo (reference ts w)
+
+row-read : (ts : List Ty) (t : List ℕ) (j : ℕ) (room : ℕ) → Sound room ts → 16 * room ≤ length t → j < length ts →
+    readRow (cellsFrom room (putRows room 0 (map rowOf ts) t) j 0 16) ≡ plainInfo (getElem? ts j)
+unfolding readRow plainInfo
+row-read ts t j room s fits h =
+    let r = at ts j (s .definitions) h in
+    rw (
+      row-at room (length t) (map rowOf ts) t j fits (every-sixteen ts) (omega (arith, length-map ts rowOf, s .fits)) refl (omega (arith, length-map ts rowOf)),
+      r .row,
+      r .found,
+      row-good (r .type) (r .definition),
+      row-back (r .type),
+    )
+
+-- reading any reference of a table whose first rows are those of ts gives what the types say
+rows-read : (ts : List Ty) (t : List ℕ) (n w : ℕ) → Sound (capacity (length t)) ts → n ≤ length ts →
+    read (putRows (capacity (length t)) 0 (map rowOf ts) t) n w ≡ typeInfo (take n ts) w
+unfolding read reference
+rows-read ts t n w s le = go (leb 64 w)
+  where
+    room : ℕ
+    room = capacity (length t)
+
+    after : List ℕ
+    after = putRows room 0 (map rowOf ts) t
+
+    row : (b : Bool) → ltb (w - 64) n ≡ b → cond b (readRow (cellsFrom (capacity (length after)) after (w - 64) 0 16)) (refuses badRef) ≡ plainInfo (getElem? (take n ts) (w - 64))
+    row true h =
+        let l : w - 64 < n = ltb-true (w - 64) n h in
+        rw (length-putRows room 0 (map rowOf ts) t, found-take ts n (w - 64) l)
+        (row-read ts t (w - 64) room s (room-fits (length t) .1) (omega arith))
+    row false h = rw (lost-take ts n (w - 64) (ltb-false (w - 64) n h)) (unfold plainInfo in refl)
+
+    go : (b : Bool) → cond b (cond (ltb (w - 64) n) (readRow (cellsFrom (capacity (length after)) after (w - 64) 0 16)) (refuses badRef)) (plainInfo (getElem? plain w)) ≡ plainInfo (cond b (getElem? (take n ts) (w - 64)) (getElem? plain w))
+    go true = row (ltb (w - 64) n) refl
+    go false = refl
+
+-- so every question that reads a table through `read` asks the first n types themselves
+pub reads-built : (ws t : List ℕ) (n : ℕ) → n ≤ length (built ws t .types) → read (tableAfter ws t) n ≡ typeInfo (take n (built ws t .types))
+unfolding tableAfter
+reads-built ws t n le = fun-ext (λ w. rows-read (built ws t .types) t n w (built-sound ws t) le)

@@ -1,0 +1,126 @@
+-- The standard's despecialize changes neither layout nor flat list nor flat count nor borrow: an enum of n is a variant of n bare cases,
+-- option and result are variants of two cases, a tuple is a record, a map the list of its entries.
+use mathlib.Core.Path.{_≡_, refl, ap}
+use mathlib.Core.Bool.{Bool, false, _||_, or-false}
+use mathlib.Core.List.{List, [], _++_, append-nil}
+use mathlib.Core.Option.{Option}
+use Prim.Native.Nat.{ℕ, zero, suc}
+use Rattle.canon.specs.Types.{
+  Ty,
+  scalar,
+  string,
+  recordOf,
+  variantOf,
+  listOf,
+  tupleOf,
+  mapOf,
+  flagsOf,
+  enumOf,
+  optionOf,
+  resultOf,
+  fixedOf,
+  Members,
+  Case,
+  bare,
+  holding,
+  ∎,
+  _▸_,
+  count,
+  bareCases,
+  entryOf,
+  despecialize,
+}
+use Rattle.canon.specs.Layout.{Memory, Layout, layout, payload, payloads, variantLayout}
+use Rattle.canon.specs.Flat.{Core, flatten, payloadFlat, payloadFlats, variantFlat, flatCount, payloadCount, payloadCounts, variantCount}
+use Rattle.canon.specs.Borrow.{borrows, payloadBorrows, caseBorrows}
+use Rattle.canon.specs.Row.{inner, casesInner}
+
+-- of bare cases there are n, and nothing else
+
+count-bare : (n : ℕ) → count (bareCases n) ≡ n
+count-bare zero = refl
+count-bare (suc n) = ap suc (count-bare n)
+
+payloads-bare : (m : Memory) (n : ℕ) → payloads m (bareCases n) ≡ []
+unfolding payloads
+payloads-bare m zero = refl
+payloads-bare m (suc n) = payloads-bare m n
+
+payloadFlats-bare : (m : Memory) (n : ℕ) → payloadFlats m (bareCases n) ≡ []
+unfolding payloadFlats
+payloadFlats-bare m zero = refl
+payloadFlats-bare m (suc n) = payloadFlats-bare m n
+
+payloadCounts-bare : (n : ℕ) → payloadCounts (bareCases n) ≡ []
+unfolding payloadCounts
+payloadCounts-bare zero = refl
+payloadCounts-bare (suc n) = payloadCounts-bare n
+
+caseBorrows-bare : (n : ℕ) → caseBorrows (bareCases n) ≡ false
+unfolding caseBorrows
+caseBorrows-bare zero = refl
+caseBorrows-bare (suc n) = caseBorrows-bare n
+
+-- what despecialize spells anew is one of five kinds
+unchanged :
+    {A : Type 0} (f : Ty → A) →
+    ((ts : Members) → f (recordOf ts) ≡ f (tupleOf ts)) →
+    ((k v : Ty) → f (listOf (entryOf k v)) ≡ f (mapOf k v)) →
+    ((n : ℕ) → f (variantOf (bareCases n)) ≡ f (enumOf n)) →
+    ((t : Ty) → f (variantOf (bare ▸ holding t ▸ ∎)) ≡ f (optionOf t)) →
+    ((ok err : Case) → f (variantOf (ok ▸ err ▸ ∎)) ≡ f (resultOf ok err)) →
+    (t : Ty) → f (despecialize t) ≡ f t
+unfolding despecialize
+unchanged f tup map enum opt res (scalar s) = refl
+unchanged f tup map enum opt res string = refl
+unchanged f tup map enum opt res (recordOf ts) = refl
+unchanged f tup map enum opt res (variantOf cs) = refl
+unchanged f tup map enum opt res (listOf t) = refl
+unchanged f tup map enum opt res (tupleOf ts) = tup ts
+unchanged f tup map enum opt res (mapOf k v) = map k v
+unchanged f tup map enum opt res (flagsOf n) = refl
+unchanged f tup map enum opt res (enumOf n) = enum n
+unchanged f tup map enum opt res (optionOf t) = opt t
+unchanged f tup map enum opt res (resultOf ok err) = res ok err
+unchanged f tup map enum opt res (fixedOf t n) = refl
+
+pub same-layout : (m : Memory) (t : Ty) → layout m (despecialize t) ≡ layout m t
+unfolding layout
+same-layout m =
+    unchanged (layout m) (λ ts. refl) (λ k v. refl) (λ n. rw (count-bare n, payloads-bare m n)) (λ t. refl)
+    (λ ok err. ap (λ (l : List Layout). variantLayout 2 (payload m ok ++ l)) (append-nil (payload m err)))
+
+pub same-flat : (m : Memory) (t : Ty) → flatten m (despecialize t) ≡ flatten m t
+unfolding flatten
+same-flat m =
+    unchanged (flatten m) (λ ts. refl) (λ k v. refl) (λ n. ap variantFlat (payloadFlats-bare m n)) (λ t. refl)
+    (λ ok err. ap (λ (l : List (List Core)). variantFlat (payloadFlat m ok ++ l)) (append-nil (payloadFlat m err)))
+
+pub same-count : (t : Ty) → flatCount (despecialize t) ≡ flatCount t
+unfolding flatCount
+same-count =
+    unchanged flatCount (λ ts. refl) (λ k v. refl) (λ n. ap variantCount (payloadCounts-bare n)) (λ t. refl)
+    (λ ok err. ap (λ (l : List (Option ℕ)). variantCount (payloadCount ok ++ l)) (append-nil (payloadCount err)))
+
+pub same-borrow : (t : Ty) → borrows (despecialize t) ≡ borrows t
+unfolding borrows
+same-borrow =
+    unchanged borrows (λ ts. refl) (λ k v. ap (λ (b : Bool). borrows k || b) (or-false (borrows v))) caseBorrows-bare
+    (λ t. or-false (borrows t)) (λ ok err. ap (λ (b : Bool). payloadBorrows ok || b) (or-false (payloadBorrows err)))
+
+-- the words 8 to 14 of a row: a variant's of the variant that the kind stands for, a map's entry of the tuple
+pub same-enum : (m : Memory) (n : ℕ) → inner m (despecialize (enumOf n)) ≡ inner m (enumOf n)
+unfolding despecialize
+same-enum m n = rw (count-bare n, payloads-bare m n)
+
+pub same-option : (m : Memory) (t : Ty) → inner m (despecialize (optionOf t)) ≡ inner m (optionOf t)
+unfolding despecialize layout
+same-option m t = refl
+
+pub same-result : (m : Memory) (ok err : Case) → inner m (despecialize (resultOf ok err)) ≡ inner m (resultOf ok err)
+unfolding despecialize layout
+same-result m ok err = ap (λ (l : List Layout). casesInner 2 (payload m ok ++ l)) (append-nil (payload m err))
+
+pub same-entry : (m : Memory) (k v : Ty) → inner m (mapOf k v) .entry ≡ layout m (entryOf k v)
+unfolding layout
+same-entry m k v = refl

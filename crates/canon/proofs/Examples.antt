@@ -1,0 +1,158 @@
+-- The worked examples of document 01 as one list under one theorem: words in, 01's numbers out, through the meaning of descriptions and
+-- questions that the promises cite.
+use mathlib.Core.Path.{_≡_, refl}
+use mathlib.Core.Bool.{true, false}
+use mathlib.Core.List.{List, [], _∷_, _++_, map}
+use Prim.Native.Nat.{ℕ, _+_, _-_}
+use lib.ListN.{replicate}
+use Rattle.canon.specs.Answer.{Answer, ok, refused, atPosition, then, unless}
+use Rattle.canon.specs.Round.{roundUp}
+use Rattle.canon.specs.Layout.{Memory, mem32, mem64, greatestAlign, starts, ends, lastEnd, recordSize, greatestSize, payloadOffset, variantSize, layout, numbers}
+use Rattle.canon.specs.Flat.{joinLists, joinAll, concat, copies, flatten, addFlat, maxFlat, timesFlat, sumFlat, greatestFlat, flatCount}
+use Rattle.canon.specs.Borrow.{borrows}
+use Rattle.canon.specs.Pack.{code, pack, unpack}
+use Rattle.canon.specs.Row.{Info, countWord, word, rowOf, flatOf, isAlignment, goodLayout, goodCount, unusedZero, goodAbi, isDiscriminant, isGood}
+use Rattle.canon.specs.Table.{capacity, place, cell, cellsFrom, rowAt, putFrom, putRows}
+use Rattle.canon.specs.Description.{reference, caseOf, membersOf, casesOf, kindOf, typeOf, isTooLarge, fitted, bodied, buildFrom, build, buildAnswer, tableAfter}
+use Rattle.canon.specs.Question.{plainInfo, readRow, read, infos, noTable, ask, askTwo, typeAnswer, firstOver, orSize, refusedAt, judged, placed, placing}
+use Rattle.canon.specs.Signature.{
+  Flattened,
+  listed,
+  inMemory,
+  flatAll,
+  atMost,
+  flattenAnswer,
+  Side,
+  Signature,
+  orPointer,
+  startOf,
+  asyncStartAnswer,
+  behindPointer,
+  returned,
+  returnOf,
+  asyncReturnAnswer,
+}
+
+-- what is asked of a description's table, most often of its last definition
+pub data Asked : Type 0 where
+  -- size32, align32, size64, align64, flat count (255 for none)
+  numbersOf : Asked
+  -- where the payload stands, for 32 and 64
+  payloadOf : Asked
+  flatListOf : Memory → Asked
+  -- the offsets of these references, then size and alignment
+  placesOf : Memory → List ℕ → Asked
+  -- of a lower side and a lift side, each with its references: the parameters, then the results
+  startOfCall : Side → List ℕ → Side → List ℕ → Asked
+  -- of a lift side and a lower side
+  returnOfCall : Side → List ℕ → Side → List ℕ → Asked
+
+-- an empty table of two rows
+abbrev blank : List ℕ
+blank = replicate 32 0
+
+abbrev last : ℕ → ℕ
+last n = 64 + (n - 1)
+
+abbrev numbersIn : Info → List ℕ
+numbersIn i =
+    i .abi .layouts .in32 .size
+    ∷ i .abi .layouts .in32 .align
+    ∷ i .abi .layouts .in64 .size
+    ∷ i .abi .layouts .in64 .align
+    ∷ countWord (i .abi .flats)
+    ∷ []
+
+abbrev codes : Flattened → List ℕ
+codes (listed l) = map code l
+codes inMemory = []
+
+abbrev bothCodes : Signature → List ℕ
+bothCodes s = map code (s .params) ++ map code (s .results)
+
+abbrev question : List ℕ → ℕ → Asked → Answer (List ℕ)
+question t n numbersOf = then (typeAnswer t n (last n)) (λ i. ok (numbersIn i))
+question t n payloadOf = ok (word (rowAt t (n - 1)) 9 ∷ word (rowAt t (n - 1)) 10 ∷ [])
+question t n (flatListOf m) = then (flattenAnswer m 16 t n (last n ∷ [])) (λ f. ok (codes f))
+question t n (placesOf m ws) = then (placing m t n ws 16) (λ p. ok (p .offsets ++ p .layout .size ∷ p .layout .align ∷ []))
+question t n (startOfCall a vs b ws) = then (asyncStartAnswer t n a vs b ws) (λ s. ok (bothCodes s))
+question t n (returnOfCall a vs b ws) = then (asyncReturnAnswer t n a vs b ws) (λ s. ok (bothCodes s))
+
+-- the build's own refusal, or the question's answer
+unfoldable pub asked : List ℕ → Asked → Answer (List ℕ)
+asked ws q = then (buildAnswer ws blank) (λ n. question (tableAfter ws blank) n q)
+
+pub record Example : Type 0 where
+  pub words : List ℕ
+  pub asks : Asked
+  pub says : Answer (List ℕ)
+
+abbrev on : List ℕ → Asked → Answer (List ℕ) → Example
+on ws q a = record { words = ws; asks = q; says = a }
+
+abbrev side : Memory → Side
+side m = record { memory = m; async = false }
+
+abbrev asyncSide : Memory → Side
+asyncSide m = record { memory = m; async = true }
+
+abbrev pub examples : List Example
+examples =
+    -- P1 empty record
+    on (1 ∷ 0 ∷ []) numbersOf (ok (0 ∷ 1 ∷ 0 ∷ 1 ∷ 0 ∷ []))
+    -- P2 record(U8, U32)
+    ∷ on (1 ∷ 2 ∷ 2 ∷ 6 ∷ []) numbersOf (ok (8 ∷ 4 ∷ 8 ∷ 4 ∷ 2 ∷ []))
+    ∷ on (1 ∷ 2 ∷ 2 ∷ 6 ∷ []) (placesOf mem32 (2 ∷ 6 ∷ [])) (ok (0 ∷ 4 ∷ 8 ∷ 4 ∷ []))
+    ∷ on (1 ∷ 2 ∷ 2 ∷ 6 ∷ []) (placesOf mem64 (2 ∷ 6 ∷ [])) (ok (0 ∷ 4 ∷ 8 ∷ 4 ∷ []))
+    -- P3 record(U8, String, U8)
+    ∷ on (1 ∷ 3 ∷ 2 ∷ 12 ∷ 2 ∷ []) numbersOf (ok (16 ∷ 4 ∷ 32 ∷ 8 ∷ 4 ∷ []))
+    ∷ on (1 ∷ 3 ∷ 2 ∷ 12 ∷ 2 ∷ []) (placesOf mem32 (2 ∷ 12 ∷ 2 ∷ [])) (ok (0 ∷ 4 ∷ 12 ∷ 16 ∷ 4 ∷ []))
+    ∷ on (1 ∷ 3 ∷ 2 ∷ 12 ∷ 2 ∷ []) (placesOf mem64 (2 ∷ 12 ∷ 2 ∷ [])) (ok (0 ∷ 8 ∷ 24 ∷ 32 ∷ 8 ∷ []))
+    -- P5 option(U8)
+    ∷ on (8 ∷ 2 ∷ []) payloadOf (ok (1 ∷ 1 ∷ []))
+    ∷ on (8 ∷ 2 ∷ []) numbersOf (ok (2 ∷ 1 ∷ 2 ∷ 1 ∷ 2 ∷ []))
+    -- P6 result(U64, String)
+    ∷ on (9 ∷ 8 ∷ 12 ∷ []) payloadOf (ok (8 ∷ 8 ∷ []))
+    ∷ on (9 ∷ 8 ∷ 12 ∷ []) numbersOf (ok (16 ∷ 8 ∷ 24 ∷ 8 ∷ 3 ∷ []))
+    ∷ on (9 ∷ 8 ∷ 12 ∷ []) (flatListOf mem32) (ok (0 ∷ 1 ∷ 0 ∷ []))
+    ∷ on (9 ∷ 8 ∷ 12 ∷ []) (flatListOf mem64) (ok (0 ∷ 1 ∷ 1 ∷ []))
+    -- P7 variant(Float32, U32), variant(Float32, Float64)
+    ∷ on (2 ∷ 2 ∷ 9 ∷ 6 ∷ []) (flatListOf mem32) (ok (0 ∷ 0 ∷ []))
+    ∷ on (2 ∷ 2 ∷ 9 ∷ 6 ∷ []) (flatListOf mem64) (ok (0 ∷ 0 ∷ []))
+    ∷ on (2 ∷ 2 ∷ 9 ∷ 10 ∷ []) (flatListOf mem32) (ok (0 ∷ 1 ∷ []))
+    ∷ on (2 ∷ 2 ∷ 9 ∷ 10 ∷ []) (flatListOf mem64) (ok (0 ∷ 1 ∷ []))
+    -- P8 enums
+    ∷ on (7 ∷ 256 ∷ []) numbersOf (ok (1 ∷ 1 ∷ 1 ∷ 1 ∷ 1 ∷ []))
+    ∷ on (7 ∷ 257 ∷ []) numbersOf (ok (2 ∷ 2 ∷ 2 ∷ 2 ∷ 1 ∷ []))
+    ∷ on (7 ∷ 65536 ∷ []) numbersOf (ok (2 ∷ 2 ∷ 2 ∷ 2 ∷ 1 ∷ []))
+    ∷ on (7 ∷ 65537 ∷ []) numbersOf (ok (4 ∷ 4 ∷ 4 ∷ 4 ∷ 1 ∷ []))
+    -- P9 flags
+    ∷ on (6 ∷ 0 ∷ []) numbersOf (ok (0 ∷ 1 ∷ 0 ∷ 1 ∷ 0 ∷ []))
+    ∷ on (6 ∷ 8 ∷ []) numbersOf (ok (1 ∷ 1 ∷ 1 ∷ 1 ∷ 1 ∷ []))
+    ∷ on (6 ∷ 9 ∷ []) numbersOf (ok (2 ∷ 2 ∷ 2 ∷ 2 ∷ 1 ∷ []))
+    ∷ on (6 ∷ 17 ∷ []) numbersOf (ok (4 ∷ 4 ∷ 4 ∷ 4 ∷ 1 ∷ []))
+    -- P10 U32 fixed at 16, at 17
+    ∷ on (10 ∷ 6 ∷ 16 ∷ []) numbersOf (ok (64 ∷ 4 ∷ 64 ∷ 4 ∷ 16 ∷ []))
+    ∷ on (10 ∷ 6 ∷ 17 ∷ []) numbersOf (ok (68 ∷ 4 ∷ 68 ∷ 4 ∷ 255 ∷ []))
+    -- P11 U16 fixed at 2147483647, at 2147483648; a record of the first and a U8
+    ∷ on (10 ∷ 4 ∷ 2147483647 ∷ []) numbersOf (ok (4294967294 ∷ 2 ∷ 4294967294 ∷ 2 ∷ 255 ∷ []))
+    ∷ on (10 ∷ 4 ∷ 2147483648 ∷ []) numbersOf (refused 6 0)
+    ∷ on (10 ∷ 4 ∷ 2147483647 ∷ 1 ∷ 2 ∷ 64 ∷ 2 ∷ []) numbersOf (refused 6 1)
+    -- P12 option of U8 fixed at 4294967294, at 4294967295
+    ∷ on (10 ∷ 2 ∷ 4294967294 ∷ 8 ∷ 64 ∷ []) numbersOf (ok (4294967295 ∷ 1 ∷ 4294967295 ∷ 1 ∷ 255 ∷ []))
+    ∷ on (10 ∷ 2 ∷ 4294967295 ∷ 8 ∷ 64 ∷ []) numbersOf (refused 6 1)
+    -- async start, lower async: five U32 give one pointer, four I32 four times
+    ∷ on [] (startOfCall (asyncSide mem64) (6 ∷ 6 ∷ 6 ∷ 6 ∷ 6 ∷ []) (side mem32) []) (ok (1 ∷ []))
+    ∷ on [] (startOfCall (asyncSide mem64) (6 ∷ 6 ∷ 6 ∷ 6 ∷ []) (side mem32) []) (ok (0 ∷ 0 ∷ 0 ∷ 0 ∷ []))
+    -- async return, lift sync 64, lower async 32, one U32 each: parameters I32 I64, no results
+    ∷ on [] (returnOfCall (side mem64) (6 ∷ []) (asyncSide mem32) (6 ∷ [])) (ok (0 ∷ 1 ∷ []))
+    ∷ []
+
+pub examples-hold : map (λ e. asked (e .words) (e .asks)) examples ≡ map (λ e. e .says) examples
+unfolding
+    asked atPosition then unless roundUp greatestAlign starts ends lastEnd recordSize greatestSize payloadOffset variantSize layout numbers
+    joinLists joinAll concat copies flatten addFlat maxFlat timesFlat sumFlat greatestFlat flatCount borrows pack unpack rowOf flatOf isAlignment goodLayout
+    goodCount unusedZero goodAbi isDiscriminant isGood capacity place cell cellsFrom putFrom putRows reference caseOf membersOf casesOf kindOf typeOf
+    isTooLarge fitted bodied buildFrom build buildAnswer tableAfter plainInfo readRow read infos noTable ask askTwo typeAnswer firstOver orSize refusedAt
+    judged placed placing flatAll atMost flattenAnswer orPointer startOf asyncStartAnswer behindPointer returned returnOf asyncReturnAnswer
+examples-hold = refl

@@ -1,0 +1,251 @@
+-- Flat types of each type (CanonicalABI.md, flatten_type and join), and 01's flat count.
+use mathlib.Core.Path.{_≡_}
+use mathlib.Core.Logic.{_⊎_}
+use mathlib.Core.Bool.{cond}
+use mathlib.Core.List.{List, [], _∷_, _++_}
+use mathlib.Core.Option.{Option, none, some}
+use Prim.Native.Nat.{ℕ, zero, suc, _+_, _*_, max}
+use lib.Dec.{leb}
+use Rattle.canon.specs.Types.{
+  Scalar,
+  bool,
+  s8,
+  u8,
+  s16,
+  u16,
+  s32,
+  u32,
+  s64,
+  u64,
+  float32,
+  float64,
+  char,
+  own,
+  borrowed,
+  future,
+  stream,
+  errorContext,
+  Ty,
+  scalar,
+  string,
+  recordOf,
+  variantOf,
+  listOf,
+  tupleOf,
+  mapOf,
+  flagsOf,
+  enumOf,
+  optionOf,
+  resultOf,
+  fixedOf,
+  Members,
+  ∅,
+  _◂_,
+  Case,
+  bare,
+  holding,
+  Cases,
+  ∎,
+  _▸_,
+}
+use Rattle.canon.specs.Layout.{Memory, mem32, mem64}
+
+-- the core types that a flat value is made of
+pub data Core : Type 0 where
+  I32 I64 F32 F64 : Core
+
+-- 01: "64-bit integers I64, Float32 F32, Float64 F64, other scalars I32"
+abbrev pub scalarFlat : Scalar → Core
+scalarFlat bool = I32
+scalarFlat s8 = I32
+scalarFlat u8 = I32
+scalarFlat s16 = I32
+scalarFlat u16 = I32
+scalarFlat s32 = I32
+scalarFlat u32 = I32
+scalarFlat s64 = I64
+scalarFlat u64 = I64
+scalarFlat float32 = F32
+scalarFlat float64 = F64
+scalarFlat char = I32
+scalarFlat own = I32
+scalarFlat borrowed = I32
+scalarFlat future = I32
+scalarFlat stream = I32
+scalarFlat errorContext = I32
+
+-- CanonicalABI.md, ptr_type
+abbrev pub ptrType : Memory → Core
+ptrType mem32 = I32
+ptrType mem64 = I64
+
+-- 01: "pairs two of the pointer type"
+abbrev pub pairFlat : Memory → List Core
+pairFlat m = ptrType m ∷ ptrType m ∷ []
+
+-- join: "equal types stay, I32 with F32 gives I32, all other pairs I64"
+abbrev pub join : Core → Core → Core
+join I32 I32 = I32
+join I32 I64 = I64
+join I32 F32 = I32
+join I32 F64 = I64
+join I64 I32 = I64
+join I64 I64 = I64
+join I64 F32 = I64
+join I64 F64 = I64
+join F32 I32 = I32
+join F32 I64 = I64
+join F32 F32 = F32
+join F32 F64 = I64
+join F64 I32 = I64
+join F64 I64 = I64
+join F64 F32 = I64
+join F64 F64 = F64
+
+-- "joined place by place": where one list ends, the other goes on
+unfoldable pub joinLists : List Core → List Core → List Core
+joinLists [] bs = bs
+joinLists (a ∷ as′) [] = a ∷ as′
+joinLists (a ∷ as′) (b ∷ bs) = join a b ∷ joinLists as′ bs
+
+-- flatten_variant: the payloads one after another into the list so far
+unfoldable pub joinAll : List Core → List (List Core) → List Core
+joinAll acc [] = acc
+joinAll acc (l ∷ ls) = joinAll (joinLists acc l) ls
+
+-- flatten_record
+unfoldable pub concat : List (List Core) → List Core
+concat [] = []
+concat (l ∷ ls) = l ++ concat ls
+
+-- the element's list, n times
+unfoldable pub copies : ℕ → List Core → List Core
+copies zero l = []
+copies (suc n) l = l ++ copies n l
+
+-- flatten_flags, and nothing for no labels
+abbrev pub flagsFlat : ℕ → List Core
+flagsFlat zero = []
+flagsFlat (suc n) = I32 ∷ []
+
+abbrev pub variantFlat : List (List Core) → List Core
+variantFlat ls = I32 ∷ joinAll [] ls
+
+module _ (m : Memory) where
+  unfoldable mutual
+    pub flatten : Ty → List Core
+    flatten (scalar s) = scalarFlat s ∷ []
+    flatten string = pairFlat m
+    flatten (recordOf ts) = concat (memberFlats ts)
+    flatten (variantOf cs) = variantFlat (payloadFlats cs)
+    flatten (listOf t) = pairFlat m
+    flatten (tupleOf ts) = concat (memberFlats ts)
+    flatten (mapOf k v) = pairFlat m
+    flatten (flagsOf n) = flagsFlat n
+    flatten (enumOf n) = variantFlat []
+    flatten (optionOf t) = variantFlat (flatten t ∷ [])
+    flatten (resultOf ok err) = variantFlat (payloadFlat ok ++ payloadFlat err)
+    flatten (fixedOf t n) = copies n (flatten t)
+
+    pub memberFlats : Members → List (List Core)
+    memberFlats ∅ = []
+    memberFlats (t ◂ ts) = flatten t ∷ memberFlats ts
+
+    pub payloadFlat : Case → List (List Core)
+    payloadFlat bare = []
+    payloadFlat (holding t) = flatten t ∷ []
+
+    pub payloadFlats : Cases → List (List Core)
+    payloadFlats ∎ = []
+    payloadFlats (c ▸ cs) = payloadFlat c ++ payloadFlats cs
+
+-- Flat counts. 01: "a sum or product above 16 is none, and none in a part makes the whole none"
+
+abbrev pub capped : ℕ → Option ℕ
+capped n = cond (leb n 16) (some n) none
+
+unfoldable pub addFlat : Option ℕ → Option ℕ → Option ℕ
+addFlat none b = none
+addFlat (some m) none = none
+addFlat (some m) (some n) = capped (m + n)
+
+unfoldable pub maxFlat : Option ℕ → Option ℕ → Option ℕ
+maxFlat none b = none
+maxFlat (some m) none = none
+maxFlat (some m) (some n) = some (max m n)
+
+unfoldable pub timesFlat : Option ℕ → ℕ → Option ℕ
+timesFlat none n = none
+timesFlat (some m) n = capped (m * n)
+
+-- "Flat is the sum"
+unfoldable pub sumFlat : List (Option ℕ) → Option ℕ
+sumFlat [] = some 0
+sumFlat (a ∷ as′) = addFlat a (sumFlat as′)
+
+unfoldable pub greatestFlat : List (Option ℕ) → Option ℕ
+greatestFlat [] = some 0
+greatestFlat (a ∷ as′) = maxFlat a (greatestFlat as′)
+
+-- "Flat is 1 plus the greatest"
+abbrev pub variantCount : List (Option ℕ) → Option ℕ
+variantCount as′ = addFlat (some 1) (greatestFlat as′)
+
+abbrev pub flagsCount : ℕ → Option ℕ
+flagsCount zero = some 0
+flagsCount (suc n) = some 1
+
+unfoldable mutual
+  pub flatCount : Ty → Option ℕ
+  flatCount (scalar s) = some 1
+  flatCount string = some 2
+  flatCount (recordOf ts) = sumFlat (memberCounts ts)
+  flatCount (variantOf cs) = variantCount (payloadCounts cs)
+  flatCount (listOf t) = some 2
+  flatCount (tupleOf ts) = sumFlat (memberCounts ts)
+  flatCount (mapOf k v) = some 2
+  flatCount (flagsOf n) = flagsCount n
+  flatCount (enumOf n) = variantCount []
+  flatCount (optionOf t) = variantCount (flatCount t ∷ [])
+  flatCount (resultOf ok err) = variantCount (payloadCount ok ++ payloadCount err)
+  flatCount (fixedOf t n) = timesFlat (flatCount t) n
+
+  pub memberCounts : Members → List (Option ℕ)
+  memberCounts ∅ = []
+  memberCounts (t ◂ ts) = flatCount t ∷ memberCounts ts
+
+  pub payloadCount : Case → List (Option ℕ)
+  payloadCount bare = []
+  payloadCount (holding t) = flatCount t ∷ []
+
+  pub payloadCounts : Cases → List (Option ℕ)
+  payloadCounts ∎ = []
+  payloadCounts (c ▸ cs) = payloadCount c ++ payloadCounts cs
+
+-- 01's rule and the flat list part ways at one place: a fixed list of count 0 over an element without a count, met outside a list or map
+unfoldable mutual
+  pub Gap : Ty → Type 0
+  Gap (scalar s) = ⊥
+  Gap string = ⊥
+  Gap (recordOf ts) = GapIn ts
+  Gap (variantOf cs) = GapAmong cs
+  Gap (listOf t) = ⊥
+  Gap (tupleOf ts) = GapIn ts
+  Gap (mapOf k v) = ⊥
+  Gap (flagsOf n) = ⊥
+  Gap (enumOf n) = ⊥
+  Gap (optionOf t) = Gap t
+  Gap (resultOf ok err) = GapOf ok ⊎ GapOf err
+  Gap (fixedOf t n) = ((n ≡ 0) × (flatCount t ≡ none)) ⊎ Gap t
+
+  pub GapIn : Members → Type 0
+  GapIn ∅ = ⊥
+  GapIn (t ◂ ts) = Gap t ⊎ GapIn ts
+
+  pub GapOf : Case → Type 0
+  GapOf bare = ⊥
+  GapOf (holding t) = Gap t
+
+  pub GapAmong : Cases → Type 0
+  GapAmong ∎ = ⊥
+  GapAmong (c ▸ cs) = GapOf c ⊎ GapAmong cs

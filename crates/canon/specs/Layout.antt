@@ -1,0 +1,221 @@
+-- Size and alignment of each type in one memory (CanonicalABI.md, alignment and elem_size; 01, "Layout rules").
+use mathlib.Core.Bool.{cond}
+use mathlib.Core.List.{List, [], _∷_, _++_}
+use Prim.Native.Nat.{ℕ, _+_, _*_, max}
+use lib.Dec.{leb}
+use Rattle.canon.specs.Round.{roundUp}
+use Rattle.canon.specs.Types.{
+  Scalar,
+  bool,
+  s8,
+  u8,
+  s16,
+  u16,
+  s32,
+  u32,
+  s64,
+  u64,
+  float32,
+  float64,
+  char,
+  own,
+  borrowed,
+  future,
+  stream,
+  errorContext,
+  Ty,
+  scalar,
+  string,
+  recordOf,
+  variantOf,
+  listOf,
+  tupleOf,
+  mapOf,
+  flagsOf,
+  enumOf,
+  optionOf,
+  resultOf,
+  fixedOf,
+  Members,
+  ∅,
+  _◂_,
+  Case,
+  bare,
+  holding,
+  Cases,
+  ∎,
+  _▸_,
+  count,
+}
+
+-- the memory, by the width of its pointers
+pub data Memory : Type 0 where
+  mem32 mem64 : Memory
+
+-- what each of the two memories has
+pub record Both (A : Type 0) : Type 0 where
+  pub in32 : A
+  pub in64 : A
+
+abbrev pub both : {A : Type 0} → (Memory → A) → Both A
+both f = record { in32 = f mem32; in64 = f mem64 }
+
+abbrev pub within : {A : Type 0} → Memory → Both A → A
+within mem32 b = b .in32
+within mem64 b = b .in64
+
+-- what a place in memory has to know of a type
+pub record Layout : Type 0 where
+  pub size : ℕ
+  pub align : ℕ
+
+-- as large as it is aligned
+abbrev pub square : ℕ → Layout
+square n = record { size = n; align = n }
+
+-- 01: "1, 2, 4 or 8 bytes, alignment equal to size", "Char and references 13 to 17: 4"
+abbrev pub scalarSize : Scalar → ℕ
+scalarSize bool = 1
+scalarSize s8 = 1
+scalarSize u8 = 1
+scalarSize s16 = 2
+scalarSize u16 = 2
+scalarSize s32 = 4
+scalarSize u32 = 4
+scalarSize s64 = 8
+scalarSize u64 = 8
+scalarSize float32 = 4
+scalarSize float64 = 8
+scalarSize char = 4
+scalarSize own = 4
+scalarSize borrowed = 4
+scalarSize future = 4
+scalarSize stream = 4
+scalarSize errorContext = 4
+
+-- CanonicalABI.md, ptr_size
+abbrev pub ptrSize : Memory → ℕ
+ptrSize mem32 = 4
+ptrSize mem64 = 8
+
+-- a pointer and a length. 01: "String, list, map: 8 with alignment 4, or 16 with alignment 8"
+abbrev pub pairLayout : Memory → Layout
+pairLayout m = record { size = ptrSize m + ptrSize m; align = ptrSize m }
+
+-- alignment_record and max_case_alignment: "the greatest of the members', 1 for none"
+unfoldable pub greatestAlign : List Layout → ℕ
+greatestAlign [] = 1
+greatestAlign (f ∷ fs) = max (f .align) (greatestAlign fs)
+
+-- 01: "each member starts at the first multiple of its alignment at or after the end before it"; e is that end
+unfoldable pub starts : ℕ → List Layout → List ℕ
+starts e [] = []
+starts e (f ∷ fs) = roundUp e (f .align) ∷ starts (roundUp e (f .align) + f .size) fs
+
+unfoldable pub ends : ℕ → List Layout → List ℕ
+ends e [] = []
+ends e (f ∷ fs) = (roundUp e (f .align) + f .size) ∷ ends (roundUp e (f .align) + f .size) fs
+
+unfoldable pub lastEnd : ℕ → List Layout → ℕ
+lastEnd e [] = e
+lastEnd e (f ∷ fs) = lastEnd (roundUp e (f .align) + f .size) fs
+
+-- elem_size_record: "the last end rounded up to it"
+unfoldable pub recordSize : List Layout → ℕ
+recordSize fs = roundUp (lastEnd 0 fs) (greatestAlign fs)
+
+abbrev pub recordLayout : List Layout → Layout
+recordLayout fs = record { size = recordSize fs; align = greatestAlign fs }
+
+-- discriminant_type of n cases: "1 byte for n up to 256, 2 up to 65,536, else 4"
+abbrev pub discriminant : ℕ → ℕ
+discriminant n = cond (leb n 256) 1 (cond (leb n 65536) 2 4)
+
+unfoldable pub greatestSize : List Layout → ℕ
+greatestSize [] = 0
+greatestSize (f ∷ fs) = max (f .size) (greatestSize fs)
+
+-- alignment_variant, of n cases whose payloads have the layouts fs: "the greatest of the discriminant's and all payloads'"
+abbrev pub variantAlign : ℕ → List Layout → ℕ
+variantAlign n fs = max (discriminant n) (greatestAlign fs)
+
+-- elem_size_variant rounds the discriminant's size up to the payloads' alignment alone
+unfoldable pub payloadOffset : ℕ → List Layout → ℕ
+payloadOffset n fs = roundUp (discriminant n) (greatestAlign fs)
+
+-- "payload offset plus greatest payload, rounded up"
+unfoldable pub variantSize : ℕ → List Layout → ℕ
+variantSize n fs = roundUp (payloadOffset n fs + greatestSize fs) (variantAlign n fs)
+
+abbrev pub variantLayout : ℕ → List Layout → Layout
+variantLayout n fs = record { size = variantSize n fs; align = variantAlign n fs }
+
+-- 01: "n = 0 gives 0, 1, flat 0; to 8, one byte; to 16, two; to 32, four". A build accepts none above 32 (refusal 5)
+abbrev pub flagsLayout : ℕ → Layout
+flagsLayout n = cond (leb n 0) (record { size = 0; align = 1 }) (cond (leb n 8) (square 1) (cond (leb n 16) (square 2) (square 4)))
+
+-- 01: "size times count, element's alignment"
+abbrev pub fixedLayout : Layout → ℕ → Layout
+fixedLayout f n = record { size = f .size * n; align = f .align }
+
+module _ (m : Memory) where
+  unfoldable mutual
+    pub layout : Ty → Layout
+    layout (scalar s) = square (scalarSize s)
+    layout string = pairLayout m
+    layout (recordOf ts) = recordLayout (members ts)
+    layout (variantOf cs) = variantLayout (count cs) (payloads cs)
+    layout (listOf t) = pairLayout m
+    layout (tupleOf ts) = recordLayout (members ts)
+    layout (mapOf k v) = pairLayout m
+    layout (flagsOf n) = flagsLayout n
+    layout (enumOf n) = variantLayout n []
+    layout (optionOf t) = variantLayout 2 (layout t ∷ [])
+    layout (resultOf ok err) = variantLayout 2 (payload ok ++ payload err)
+    layout (fixedOf t n) = fixedLayout (layout t) n
+
+    pub members : Members → List Layout
+    members ∅ = []
+    members (t ◂ ts) = layout t ∷ members ts
+
+    pub payload : Case → List Layout
+    payload bare = []
+    payload (holding t) = layout t ∷ []
+
+    pub payloads : Cases → List Layout
+    payloads ∎ = []
+    payloads (c ▸ cs) = payload c ++ payloads cs
+
+  abbrev pub elemSize : Ty → ℕ
+  elemSize t = layout t .size
+
+  abbrev pub alignment : Ty → ℕ
+  alignment t = layout t .align
+
+-- 01, refusal 6: "a start, end or size above 4294967295"
+
+abbrev pub largestNumber : ℕ
+largestNumber = 4294967295
+
+-- every start, every end and the size of a record of these members
+abbrev pub recordNumbers : List Layout → List ℕ
+recordNumbers fs = starts 0 fs ++ ends 0 fs ++ recordSize fs ∷ []
+
+-- where the payload starts and the greatest ends, and the size
+abbrev pub variantNumbers : ℕ → List Layout → List ℕ
+variantNumbers n fs = payloadOffset n fs ∷ (payloadOffset n fs + greatestSize fs) ∷ variantSize n fs ∷ []
+
+-- every number that has to fit; of a map its entry's, too
+unfoldable pub numbers : Memory → Ty → List ℕ
+numbers m (scalar s) = elemSize m (scalar s) ∷ []
+numbers m string = elemSize m string ∷ []
+numbers m (recordOf ts) = recordNumbers (members m ts)
+numbers m (variantOf cs) = variantNumbers (count cs) (payloads m cs)
+numbers m (listOf t) = elemSize m (listOf t) ∷ []
+numbers m (tupleOf ts) = recordNumbers (members m ts)
+numbers m (mapOf k v) = elemSize m (mapOf k v) ∷ recordNumbers (layout m k ∷ layout m v ∷ [])
+numbers m (flagsOf n) = elemSize m (flagsOf n) ∷ []
+numbers m (enumOf n) = variantNumbers n []
+numbers m (optionOf t) = variantNumbers 2 (layout m t ∷ [])
+numbers m (resultOf ok err) = variantNumbers 2 (payload m ok ++ payload m err)
+numbers m (fixedOf t n) = elemSize m (fixedOf t n) ∷ []

@@ -1,0 +1,205 @@
+-- A table's row: the sixteen words that a type gives, their good form, and what a question takes from them (01, "Row").
+use mathlib.Core.Bool.{Bool, true, cond, _||_, _&&_}
+use mathlib.Core.List.{List, [], _∷_, _++_}
+use mathlib.Core.Option.{Option, none, some}
+use Prim.Native.Nat.{ℕ, _/_, _%_, _^_}
+use lib.Dec.{leb, eqb}
+use lib.ListN.{getD}
+use Rattle.canon.specs.Types.{
+  Ty,
+  scalar,
+  string,
+  recordOf,
+  variantOf,
+  listOf,
+  tupleOf,
+  mapOf,
+  flagsOf,
+  enumOf,
+  optionOf,
+  resultOf,
+  fixedOf,
+  count,
+}
+use Rattle.canon.specs.Layout.{
+  Memory,
+  mem32,
+  mem64,
+  Both,
+  both,
+  within,
+  Layout,
+  starts,
+  recordLayout,
+  discriminant,
+  payloadOffset,
+  layout,
+  payload,
+  payloads,
+}
+use Rattle.canon.specs.Flat.{Core, flatten, flatCount}
+use Rattle.canon.specs.Borrow.{borrows}
+use Rattle.canon.specs.Pack.{pack, unpack}
+use Rattle.canon.specs.Answer.{lift}
+
+-- word 0; 0 for a type that no definition spells
+abbrev pub kindWord : Ty → ℕ
+kindWord (scalar s) = 0
+kindWord string = 0
+kindWord (recordOf ts) = 1
+kindWord (variantOf cs) = 2
+kindWord (listOf t) = 3
+kindWord (tupleOf ts) = 4
+kindWord (mapOf k v) = 5
+kindWord (flagsOf n) = 6
+kindWord (enumOf n) = 7
+kindWord (optionOf t) = 8
+kindWord (resultOf ok err) = 9
+kindWord (fixedOf t n) = 10
+
+-- word 5: "flat count, 255 for none"
+abbrev pub countWord : Option ℕ → ℕ
+countWord none = 255
+countWord (some n) = n
+
+abbrev pub countOf : ℕ → Option ℕ
+countOf w = cond (eqb w 255) none (some w)
+
+-- words 6 and 7: "both words zero if none"
+abbrev pub flatWord : Option ℕ → List Core → ℕ
+flatWord none l = 0
+flatWord (some n) l = pack l
+
+-- words 8 to 14, in one memory: "discriminant size, 0 if the kind has none", "payload offset (variant, enum, option, result) or
+-- value offset (map)", "a map's entry size32, align32, size64, align64, otherwise 0"
+pub record Inner : Type 0 where
+  pub disc : ℕ
+  pub offset : ℕ
+  pub entry : Layout
+
+abbrev pub noLayout : Layout
+noLayout = record { size = 0; align = 0 }
+
+abbrev pub noInner : Inner
+noInner = record { disc = 0; offset = 0; entry = noLayout }
+
+abbrev pub casesInner : ℕ → List Layout → Inner
+casesInner n fs = record { disc = discriminant n; offset = payloadOffset n fs; entry = noLayout }
+
+-- the value is the entry's second member
+abbrev pub mapInner : Layout → Layout → Inner
+mapInner k v = record { disc = 0; offset = getD (starts 0 (k ∷ v ∷ [])) 1 0; entry = recordLayout (k ∷ v ∷ []) }
+
+abbrev pub inner : Memory → Ty → Inner
+inner m (scalar s) = noInner
+inner m string = noInner
+inner m (recordOf ts) = noInner
+inner m (variantOf cs) = casesInner (count cs) (payloads m cs)
+inner m (listOf t) = noInner
+inner m (tupleOf ts) = noInner
+inner m (mapOf k v) = mapInner (layout m k) (layout m v)
+inner m (flagsOf n) = noInner
+inner m (enumOf n) = casesInner n []
+inner m (optionOf t) = casesInner 2 (layout m t ∷ [])
+inner m (resultOf ok err) = casesInner 2 (payload m ok ++ payload m err)
+inner m (fixedOf t n) = noInner
+
+-- word 15
+abbrev pub borrowWord : Bool → ℕ
+borrowWord b = cond b 1 0
+
+unfoldable pub rowOf : Ty → List ℕ
+rowOf t =
+    kindWord t
+    ∷ layout mem32 t .size
+    ∷ layout mem32 t .align
+    ∷ layout mem64 t .size
+    ∷ layout mem64 t .align
+    ∷ countWord (flatCount t)
+    ∷ flatWord (flatCount t) (flatten mem32 t)
+    ∷ flatWord (flatCount t) (flatten mem64 t)
+    ∷ inner mem32 t .disc
+    ∷ inner mem32 t .offset
+    ∷ inner mem64 t .offset
+    ∷ inner mem32 t .entry .size
+    ∷ inner mem32 t .entry .align
+    ∷ inner mem64 t .entry .size
+    ∷ inner mem64 t .entry .align
+    ∷ borrowWord (borrows t)
+    ∷ []
+
+-- types.rs, the five numbers of `CanonicalAbiInfo`
+pub record Abi : Type 0 where
+  pub layouts : Both Layout
+  pub flats : Option ℕ
+
+abbrev pub abiOf : Ty → Abi
+abiOf t = record { layouts = both (λ m. layout m t); flats = flatCount t }
+
+-- what a question takes from a type. 01: "the five numbers of `CanonicalAbiInfo`, flat words and borrow"
+pub record Info : Type 0 where
+  pub abi : Abi
+  pub flatWords : Both ℕ
+  pub borrow : Bool
+
+abbrev pub infoOf : Ty → Info
+infoOf t = record { abi = abiOf t; flatWords = both (λ m. flatWord (flatCount t) (flatten m t)); borrow = borrows t }
+
+abbrev pub word : List ℕ → ℕ → ℕ
+word r k = getD r k 0
+
+abbrev pub rowAbi : List ℕ → Abi
+rowAbi r =
+    record {
+      layouts = record { in32 = record { size = word r 1; align = word r 2 }; in64 = record { size = word r 3; align = word r 4 } };
+      flats = countOf (word r 5);
+    }
+
+abbrev pub rowInfo : List ℕ → Info
+rowInfo r = record { abi = rowAbi r; flatWords = record { in32 = word r 6; in64 = word r 7 }; borrow = eqb (word r 15) 1 }
+
+-- the flat list in one memory, none if the count is none
+unfoldable pub flatOf : Memory → Info → Option (List Core)
+flatOf m i = lift (λ n. unpack n (within m (i .flatWords))) (i .abi .flats)
+
+-- The good form. 01: "A row is well formed when"
+
+-- "alignments are 1, 2, 4 or 8"
+unfoldable pub isAlignment : ℕ → Bool
+isAlignment a = eqb a 1 || (eqb a 2 || (eqb a 4 || eqb a 8))
+
+-- "each size is a multiple of its alignment"
+unfoldable pub goodLayout : Layout → Bool
+goodLayout f = isAlignment (f .align) && eqb (f .size % f .align) 0
+
+-- "flat count is 0 to 16 or 255"
+unfoldable pub goodCount : Option ℕ → Bool
+goodCount none = true
+goodCount (some n) = leb n 16
+
+-- how many core types the flat words hold
+abbrev pub used : Option ℕ → ℕ
+used none = 0
+used (some n) = n
+
+-- "unused flat bits are zero"
+unfoldable pub unusedZero : Option ℕ → ℕ → Bool
+unusedZero c w = eqb (w / 4 ^ used c) 0
+
+-- of an info: "A bad info breaks the row's rules for words 1 to 5"
+unfoldable pub goodAbi : Abi → Bool
+goodAbi a = goodLayout (a .layouts .in32) && (goodLayout (a .layouts .in64) && goodCount (a .flats))
+
+-- "word 8 is 0, 1, 2 or 4"
+unfoldable pub isDiscriminant : ℕ → Bool
+isDiscriminant d = eqb d 0 || (eqb d 1 || (eqb d 2 || eqb d 4))
+
+unfoldable pub isGood : List ℕ → Bool
+isGood r =
+    leb 1 (word r 0)
+    && (leb (word r 0) 10
+    && (goodAbi (rowAbi r)
+    && (unusedZero (rowAbi r .flats) (word r 6)
+    && (unusedZero (rowAbi r .flats) (word r 7)
+    && (isDiscriminant (word r 8)
+    && leb (word r 15) 1)))))
