@@ -5,7 +5,7 @@ use mathlib.Core.Bool.{Bool, true, false, cond}
 use mathlib.Core.List.{List, [], _∷_, _++_}
 use mathlib.Core.Option.{Option, none, some}
 use Prim.Native.Nat.{ℕ, zero, suc, _+_, _*_, _≤_, _<_, max}
-use native.Mathlib.Nat.{mul-zero, mul-suc}
+use native.Mathlib.Nat.{mul-suc}
 use native.Mathlib.Omega.{arith}
 use lib.Dec.{leb}
 use lib.ListN.{length, length-append}
@@ -41,7 +41,6 @@ use Rattle.canon.specs.Flat.{
   joinLists,
   joinAll,
   concat,
-  copies,
   flagsFlat,
   flatten,
   memberFlats,
@@ -64,6 +63,7 @@ use Rattle.canon.specs.Flat.{
   GapOf,
   GapAmong,
 }
+use Rattle.canon.proofs.FlatFolds.{length-join, length-copies, maxFlat-assoc, zero-maxFlat}
 
 -- a count of a list of so many entries: its length up to 16 where there is no gap G, none only where it is longer or has one
 abbrev Judged : Option ℕ → ℕ → Type 0 → Type 0
@@ -116,42 +116,19 @@ abbrev longest : List (List Core) → ℕ
 longest [] = 0
 longest (l ∷ ls) = max (length l) (longest ls)
 
-length-joinLists : (k l : List Core) → length (joinLists k l) ≡ max (length k) (length l)
-unfolding joinLists
-length-joinLists [] l = omega arith
-length-joinLists (a ∷ k) [] = omega arith
-length-joinLists (a ∷ k) (b ∷ l) = omega (arith, length-joinLists k l)
-
 length-joinAll : (acc : List Core) (ls : List (List Core)) → length (joinAll acc ls) ≡ max (length acc) (longest ls)
 unfolding joinAll
 length-joinAll acc [] = omega arith
-length-joinAll acc (l ∷ ls) = omega (arith, length-joinAll (joinLists acc l) ls, length-joinLists acc l)
+length-joinAll acc (l ∷ ls) = omega (arith, length-joinAll (joinLists acc l) ls, length-join acc l)
 
 longest-append : (ks ls : List (List Core)) → longest (ks ++ ls) ≡ max (longest ks) (longest ls)
 longest-append [] ls = omega arith
 longest-append (k ∷ ks) ls = omega (arith, longest-append ks ls)
 
-length-copies : (n : ℕ) (l : List Core) → length (copies n l) ≡ length l * n
-unfolding copies
-length-copies zero l = sym (mul-zero (length l))
-length-copies (suc n) l = rw (mul-suc (length l) n) (omega (arith, length-append l (copies n l), length-copies n l))
-
-maxFlat-zero : (o : Option ℕ) → maxFlat (some 0) o ≡ o
-unfolding maxFlat
-maxFlat-zero none = refl
-maxFlat-zero (some n) = ap some (omega arith)
-
-maxFlat-assoc : (a b c : Option ℕ) → maxFlat (maxFlat a b) c ≡ maxFlat a (maxFlat b c)
-unfolding maxFlat
-maxFlat-assoc none b c = refl
-maxFlat-assoc (some a) none c = refl
-maxFlat-assoc (some a) (some b) none = refl
-maxFlat-assoc (some a) (some b) (some c) = ap some (omega arith)
-
 pub greatestFlat-append : (as′ bs : List (Option ℕ)) → greatestFlat (as′ ++ bs) ≡ maxFlat (greatestFlat as′) (greatestFlat bs)
 unfolding greatestFlat
-greatestFlat-append [] bs = sym (maxFlat-zero (greatestFlat bs))
-greatestFlat-append (a ∷ as′) bs = rw (greatestFlat-append as′ bs) (sym (maxFlat-assoc a (greatestFlat as′) (greatestFlat bs)))
+greatestFlat-append [] bs = sym (zero-maxFlat (greatestFlat bs))
+greatestFlat-append (a ∷ as′) bs = rw (greatestFlat-append as′ bs) (maxFlat-assoc a (greatestFlat as′) (greatestFlat bs))
 
 -- one payload
 alone : (c : Option ℕ) (l : List Core) (G : Type 0) → Judged c (length l) G → Judged (greatestFlat (c ∷ [])) (longest (l ∷ [])) G

@@ -5,6 +5,7 @@ pub mod Rounding
 pub mod Tightest
 pub mod Alignments
 pub mod Packing
+pub mod FlatFolds
 pub mod Counts
 pub mod Despecialize
 pub mod Sizes

@@ -1,5 +1,5 @@
 -- Every definition's row is of good form and reads back as its type.
-use mathlib.Core.Path.{_≡_, refl, ap}
+use mathlib.Core.Path.{_≡_, refl, sym, ap}
 use mathlib.Core.Bool.{Bool, true, false, cond}
 use mathlib.Core.Option.{Option, none, some}
 use Prim.Native.Nat.{ℕ, _≤_}
@@ -7,7 +7,7 @@ use native.Mathlib.Nat.{mod-eq-zero-of-dvd, div-eq-of-lt}
 use native.Mathlib.Omega.{arith}
 use lib.Dec.{leb, eqb}
 use lib.ListN.{length}
-use borrow.Author.Tests.{le-leb, eq-eqb, ne-eqb}
+use borrow.Author.Tests.{eqb-true, le-leb, eq-eqb, ne-eqb}
 use Rattle.canon.specs.Answer.{lift}
 use Rattle.canon.specs.Round.{Alignment, by1, by2, by4, by8}
 use Rattle.canon.specs.Types.{
@@ -89,6 +89,13 @@ count-good (some n) w = le-leb n 16 w
 pub countOf-countWord : (c : Option ℕ) → Small c → countOf (countWord c) ≡ c
 countOf-countWord none w = refl
 countOf-countWord (some n) w = rw (ne-eqb n 255 (λ e. omega arith))
+
+pub countWord-countOf : (w : ℕ) → countWord (countOf w) ≡ w
+countWord-countOf w = go (eqb w 255) refl
+  where
+    go : (b : Bool) → eqb w 255 ≡ b → countWord (cond b none (some w)) ≡ w
+    go true h = sym (eqb-true w 255 h)
+    go false h = refl
 
 unused-good : (m : Memory) (t : Ty) → unusedZero (flatCount t) (flatWord (flatCount t) (flatten m t)) ≡ true
 unfolding unusedZero

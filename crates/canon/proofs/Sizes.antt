@@ -1,11 +1,11 @@
 -- Too large in 01's words (a start, an end or the size) comes to the size alone.
-use mathlib.Core.Path.{_≡_, refl}
-use mathlib.Core.Bool.{Bool, true, false, _||_, or-false}
+use mathlib.Core.Path.{_≡_, refl, sym, ap, _∙_}
+use mathlib.Core.Bool.{Bool, true, false, _||_, or-false, or-true}
 use mathlib.Core.List.{List, [], _∷_, _++_}
-use Prim.Native.Nat.{ℕ, _+_, _≤_}
+use Prim.Native.Nat.{ℕ, _+_, _≤_, _<_}
 use native.Mathlib.Omega.{arith}
 use lib.Dec.{ltb}
-use borrow.Author.Tests.{ltb-true, lt-ltb}
+use borrow.Author.Tests.{ltb-false, le-ltb, ltb-true, lt-ltb}
 use Rattle.canon.specs.Round.{roundUp}
 use Rattle.canon.specs.Types.{
   Ty,
@@ -36,7 +36,6 @@ use Rattle.canon.specs.Layout.{
   recordSize,
   recordNumbers,
   greatestSize,
-  variantAlign,
   payloadOffset,
   variantSize,
   variantNumbers,
@@ -52,49 +51,84 @@ use Rattle.canon.proofs.Rounding.{le-roundUp, alignment-pos}
 use Rattle.canon.proofs.Tightest.{Aligned, le-lastEnd, le-recordSize}
 use Rattle.canon.proofs.Alignments.{layout-aligned, members-aligned, payload-aligned, payloads-aligned, variant-alignment, aligned-append}
 
--- numbers that are at most y add nothing to y's own test
-absorbed : (n y : ℕ) (xs : List ℕ) → Every (λ x. x ≤ y) xs → someAbove n (xs ++ y ∷ []) ≡ ltb n y
-absorbed n y [] w = or-false (ltb n y)
-absorbed n y (x ∷ xs) w = rw (absorbed n y xs (w .1)) (go (ltb n x) refl)
+pub above-append : (n : ℕ) (xs ys : List ℕ) → someAbove n (xs ++ ys) ≡ (someAbove n xs || someAbove n ys)
+above-append n [] ys = refl
+above-append n (x ∷ xs) ys = go (ltb n x) (above-append n xs ys)
   where
-    go : (b : Bool) → ltb n x ≡ b → b || ltb n y ≡ ltb n y
-    go true h = rw (lt-ltb n y (omega (arith, ltb-true n x h, w .0)))
-    go false h = refl
+    go : (b : Bool) → someAbove n (xs ++ ys) ≡ (someAbove n xs || someAbove n ys) → (b || someAbove n (xs ++ ys))
+        ≡ ((b || someAbove n xs) || someAbove n ys)
+    go true e = refl
+    go false e = e
+
+-- where the last number of a list is at least each of them, it decides
+pub last-decides : (n : ℕ) (xs : List ℕ) (y : ℕ) → Every (λ x. x ≤ y) xs → someAbove n (xs ++ y ∷ []) ≡ ltb n y
+last-decides n [] y w = or-false (ltb n y)
+last-decides n (x ∷ xs) y w = go (ltb n x) refl (last-decides n xs y (w .1))
+  where
+    go : (b : Bool) → ltb n x ≡ b → someAbove n (xs ++ y ∷ []) ≡ ltb n y → (b || someAbove n (xs ++ y ∷ [])) ≡ ltb n y
+    go true h e = sym (lt-ltb n y (omega (arith, ltb-true n x h, w .0)))
+    go false h e = e
 
 every-append : (P : ℕ → Type 0) (xs ys : List ℕ) → Every P xs → Every P ys → Every P (xs ++ ys)
 every-append P [] ys v w = w
 every-append P (x ∷ xs) ys v w = (v .0, every-append P xs ys (v .1) w)
 
-every-le : (a b : ℕ) (xs : List ℕ) → a ≤ b → Every (λ x. x ≤ a) xs → Every (λ x. x ≤ b) xs
-every-le a b [] h w = tt
-every-le a b (x ∷ xs) h w = (omega (arith, w .0), every-le a b xs h (w .1))
-
--- no start and no end is after the last end
-
-starts-le : (e : ℕ) (fs : List Layout) → Aligned fs → Every (λ x. x ≤ lastEnd e fs) (starts e fs)
+starts-below : (e y : ℕ) (fs : List Layout) → Aligned fs → lastEnd e fs ≤ y → Every (λ x. x ≤ y) (starts e fs)
 unfolding starts lastEnd
-starts-le e [] w = tt
-starts-le e (f ∷ fs) w =
-    (omega (arith, le-lastEnd (roundUp e (f .align) + f .size) fs (w .1)), starts-le (roundUp e (f .align) + f .size) fs (w .1))
+starts-below e y [] w h = tt
+starts-below e y (f ∷ fs) w h =
+    (omega (arith, le-lastEnd (roundUp e (f .align) + f .size) fs (w .1)), starts-below (roundUp e (f .align) + f .size) y fs (w .1) h)
 
-ends-le : (e : ℕ) (fs : List Layout) → Aligned fs → Every (λ x. x ≤ lastEnd e fs) (ends e fs)
+ends-below : (e y : ℕ) (fs : List Layout) → Aligned fs → lastEnd e fs ≤ y → Every (λ x. x ≤ y) (ends e fs)
 unfolding ends lastEnd
-ends-le e [] w = tt
-ends-le e (f ∷ fs) w =
-    (le-lastEnd (roundUp e (f .align) + f .size) fs (w .1), ends-le (roundUp e (f .align) + f .size) fs (w .1))
+ends-below e y [] w h = tt
+ends-below e y (f ∷ fs) w h =
+    (omega (arith, le-lastEnd (roundUp e (f .align) + f .size) fs (w .1)), ends-below (roundUp e (f .align) + f .size) y fs (w .1) h)
 
-pub record-above : (n : ℕ) (fs : List Layout) → Aligned fs → someAbove n (recordNumbers fs) ≡ ltb n (recordSize fs)
-record-above n fs w =
-    absorbed n (recordSize fs) (starts 0 fs ++ ends 0 fs)
-    (every-le (lastEnd 0 fs) (recordSize fs) (starts 0 fs ++ ends 0 fs) (le-recordSize fs w)
-    (every-append (λ x. x ≤ lastEnd 0 fs) (starts 0 fs) (ends 0 fs) (starts-le 0 fs w) (ends-le 0 fs w)))
+-- where the last end passes, some end does
+some-end : (n e : ℕ) (fs : List Layout) → e ≤ n → n < lastEnd e fs → someAbove n (ends e fs) ≡ true
+unfolding ends lastEnd
+some-end n e [] h l = absurd (omega arith)
+some-end n e (f ∷ fs) h l = go (ltb n (roundUp e (f .align) + f .size)) refl (λ k. some-end n (roundUp e (f .align) + f .size) fs k l)
+  where
+    go :
+        (b : Bool) →
+        ltb n (roundUp e (f .align) + f .size) ≡ b →
+        (roundUp e (f .align) + f .size ≤ n → someAbove n (ends (roundUp e (f .align) + f .size) fs) ≡ true) →
+        (b || someAbove n (ends (roundUp e (f .align) + f .size) fs)) ≡ true
+    go true p k = refl
+    go false p k = k (ltb-false n (roundUp e (f .align) + f .size) p)
 
-pub variant-above : (n k : ℕ) (fs : List Layout) → Aligned fs → someAbove n (variantNumbers k fs) ≡ ltb n (variantSize k fs)
+none-above : (n y : ℕ) (xs : List ℕ) → y ≤ n → Every (λ x. x ≤ y) xs → someAbove n xs ≡ false
+none-above n y [] h w = refl
+none-above n y (x ∷ xs) h w = rw (le-ltb n x (omega (arith, w .0)), none-above n y xs h (w .1))
+
+-- of the members, before the size is known: the last end
+pub members-decide : (n : ℕ) (fs : List Layout) → Aligned fs → someAbove n (starts 0 fs ++ ends 0 fs) ≡ ltb n (lastEnd 0 fs)
+members-decide n fs w = go (ltb n (lastEnd 0 fs)) refl
+  where
+    go : (b : Bool) → ltb n (lastEnd 0 fs) ≡ b → someAbove n (starts 0 fs ++ ends 0 fs) ≡ b
+    go true h =
+        above-append n (starts 0 fs) (ends 0 fs)
+        ∙ ap (λ (b : Bool). someAbove n (starts 0 fs) || b) (some-end n 0 fs (omega arith) (ltb-true n (lastEnd 0 fs) h))
+        ∙ or-true (someAbove n (starts 0 fs))
+    go false h =
+        none-above n (lastEnd 0 fs) (starts 0 fs ++ ends 0 fs) (ltb-false n (lastEnd 0 fs) h)
+        (every-append _ (starts 0 fs) (ends 0 fs) (starts-below 0 (lastEnd 0 fs) fs w (omega arith)) (ends-below 0 (lastEnd 0 fs) fs w (omega arith)))
+
+-- of a record: the size
+pub record-decides : (n : ℕ) (fs : List Layout) → Aligned fs → someAbove n (recordNumbers fs) ≡ ltb n (recordSize fs)
+record-decides n fs w =
+    let l : lastEnd 0 fs ≤ recordSize fs = le-recordSize fs w in
+    last-decides n (starts 0 fs ++ ends 0 fs) (recordSize fs)
+    (every-append _ (starts 0 fs) (ends 0 fs) (starts-below 0 (recordSize fs) fs w l) (ends-below 0 (recordSize fs) fs w l))
+
+-- of a variant: the size
+pub variant-decides : (n k : ℕ) (fs : List Layout) → Aligned fs → someAbove n (variantNumbers k fs) ≡ ltb n (variantSize k fs)
 unfolding variantSize
-variant-above n k fs w =
-    let l : payloadOffset k fs + greatestSize fs ≤ roundUp (payloadOffset k fs + greatestSize fs) (variantAlign k fs) =
-    le-roundUp _ (variantAlign k fs) (alignment-pos (variant-alignment k fs w)) in
-    absorbed n (variantSize k fs) (payloadOffset k fs ∷ (payloadOffset k fs + greatestSize fs) ∷ []) (omega arith, (l, tt))
+variant-decides n k fs w =
+    let l : payloadOffset k fs + greatestSize fs ≤ variantSize k fs = le-roundUp _ _ (alignment-pos (variant-alignment k fs w)) in
+    last-decides n (payloadOffset k fs ∷ (payloadOffset k fs + greatestSize fs) ∷ []) (variantSize k fs) (omega arith, (l, tt))
 
 -- what has to fit: of a map its entry, of every other kind the type
 abbrev pub largestPart : Ty → Ty
@@ -117,22 +151,22 @@ pair-fits mem32 = refl
 pair-fits mem64 = refl
 
 one-above : (n x : ℕ) → someAbove n (x ∷ []) ≡ ltb n x
-one-above n x = absorbed n x [] tt
+one-above n x = last-decides n [] x tt
 
 pub tooLarge-size : (m : Memory) (t : Ty) → isTooLarge m t ≡ ltb largestNumber (layout m (largestPart t) .size)
 unfolding isTooLarge numbers layout
 tooLarge-size m (scalar s) = one-above largestNumber (layout m (scalar s) .size)
 tooLarge-size m string = one-above largestNumber (layout m string .size)
-tooLarge-size m (recordOf ts) = record-above largestNumber (members m ts) (members-aligned m ts)
-tooLarge-size m (variantOf cs) = variant-above largestNumber (count cs) (payloads m cs) (payloads-aligned m cs)
+tooLarge-size m (recordOf ts) = record-decides largestNumber (members m ts) (members-aligned m ts)
+tooLarge-size m (variantOf cs) = variant-decides largestNumber (count cs) (payloads m cs) (payloads-aligned m cs)
 tooLarge-size m (listOf t) = one-above largestNumber (layout m (listOf t) .size)
-tooLarge-size m (tupleOf ts) = record-above largestNumber (members m ts) (members-aligned m ts)
+tooLarge-size m (tupleOf ts) = record-decides largestNumber (members m ts) (members-aligned m ts)
 tooLarge-size m (mapOf k v) =
-    rw (pair-fits m) (record-above largestNumber (layout m k ∷ layout m v ∷ []) (layout-aligned m k, (layout-aligned m v, tt)))
+    rw (pair-fits m) (record-decides largestNumber (layout m k ∷ layout m v ∷ []) (layout-aligned m k, (layout-aligned m v, tt)))
 tooLarge-size m (flagsOf n) = one-above largestNumber (layout m (flagsOf n) .size)
-tooLarge-size m (enumOf n) = variant-above largestNumber n [] tt
-tooLarge-size m (optionOf t) = variant-above largestNumber 2 (layout m t ∷ []) (layout-aligned m t, tt)
+tooLarge-size m (enumOf n) = variant-decides largestNumber n [] tt
+tooLarge-size m (optionOf t) = variant-decides largestNumber 2 (layout m t ∷ []) (layout-aligned m t, tt)
 tooLarge-size m (resultOf ok err) =
-    variant-above largestNumber 2 (payload m ok ++ payload m err)
+    variant-decides largestNumber 2 (payload m ok ++ payload m err)
     (aligned-append (payload m ok) (payload m err) (payload-aligned m ok) (payload-aligned m err))
 tooLarge-size m (fixedOf t n) = one-above largestNumber (layout m (fixedOf t n) .size)

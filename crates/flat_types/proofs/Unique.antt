@@ -1,0 +1,59 @@
+-- No second outcome meets a promise: each names the words of its answer, in each memory.
+use mathlib.Core.Bool.{Bool}
+use mathlib.Core.Path.{_≡_, sym, ap, _∙_}
+use Prim.Native.Nat.{ℕ}
+use Rattle.canon.specs.Layout.{Memory, mem32, mem64}
+use Rattle.canon.specs.Pack.{Packed}
+use Rattle.flat_types.specs.Lists.{wordsIn, words}
+use Rattle.flat_types.specs.declared.both.FlatTypes.{FlatTypes}
+use Rattle.flat_types.specs.declared.list.FlatList.{FlatList}
+use Rattle.flat_types.specs.declared.memory.Memory as declared
+use Rattle.flat_types.proofs.both.FlatTypes.plain.Reads as plain
+use Rattle.flat_types.proofs.both.FlatTypes.flags.Reads as flags
+use Rattle.flat_types.proofs.both.FlatTypes.append.Reads as append
+use Rattle.flat_types.proofs.both.FlatTypes.join.Reads as join
+use Rattle.flat_types.proofs.both.FlatTypes.with_discriminant.Reads as with-discriminant
+use Rattle.flat_types.proofs.both.FlatTypes.repeat.Reads as repeat
+use Rattle.flat_types.proofs.both.FlatTypes.is_good.Reads as is-good
+use Rattle.flat_types.proofs.both.FlatTypes.in_memory.Reads as in-memory
+use Rattle.flat_types.proofs.list.FlatList.append.Reads as list-append
+use Rattle.flat_types.proofs.list.FlatList.with_pointer.Reads as with-pointer
+
+-- the words in each memory tell the whole
+same : (r q : FlatTypes) (f : Memory → Packed) → ((m : Memory) → wordsIn m r ≡ f m) → ((m : Memory) → wordsIn m q ≡ f m) → r ≡ q
+same r q f g h =
+    ap (λ (x : Packed). record { count = x .number; memory32 = x .types; memory64 = r .memory64 }) (g mem32 ∙ sym (h mem32))
+    ∙ ap (λ (x : Packed). record { count = q .count; memory32 = q .memory32; memory64 = x .types }) (g mem64 ∙ sym (h mem64))
+
+same-list : (r q : FlatList) (p : Packed) → words r ≡ p → words q ≡ p → r ≡ q
+same-list r q p g h = ap (λ (x : Packed). record { count = x .number; types = x .types }) (g ∙ sym h)
+
+pub plain-one : (w : ℕ) (r q : FlatTypes) → plain.Post tt (w, tt) r (w, tt) → plain.Post tt (w, tt) q (w, tt) → r ≡ q
+plain-one w r q g h = same r q _ g h
+
+pub flags-one : (n : ℕ) (r q : FlatTypes) → flags.Post tt (n, tt) r (n, tt) → flags.Post tt (n, tt) q (n, tt) → r ≡ q
+flags-one n r q g h = same r q _ g h
+
+pub append-one : (a b r q : FlatTypes) → append.Post tt (a, (b, tt)) r (a, (b, tt)) → append.Post tt (a, (b, tt)) q (a, (b, tt)) → r ≡ q
+append-one a b r q g h = same r q _ g h
+
+pub join-one : (a b r q : FlatTypes) → join.Post tt (a, (b, tt)) r (a, (b, tt)) → join.Post tt (a, (b, tt)) q (a, (b, tt)) → r ≡ q
+join-one a b r q g h = same r q _ g h
+
+pub with-discriminant-one : (a r q : FlatTypes) → with-discriminant.Post tt (a, tt) r (a, tt) → with-discriminant.Post tt (a, tt) q (a, tt) → r ≡ q
+with-discriminant-one a r q g h = same r q _ g h
+
+pub repeat-one : (a : FlatTypes) (n : ℕ) (r q : FlatTypes) → repeat.Post tt (a, (n, tt)) r (a, (n, tt)) → repeat.Post tt (a, (n, tt)) q (a, (n, tt)) → r ≡ q
+repeat-one a n r q g h = same r q _ g h
+
+pub is-good-one : (a : FlatTypes) (r q : Bool) → is-good.Post tt (a, tt) r (a, tt) → is-good.Post tt (a, tt) q (a, tt) → r ≡ q
+is-good-one a r q g h = g ∙ sym h
+
+pub in-memory-one : (a : FlatTypes) (m : declared.Memory) (r q : FlatList) → in-memory.Post tt (a, (m, tt)) r (a, (m, tt)) → in-memory.Post tt (a, (m, tt)) q (a, (m, tt)) → r ≡ q
+in-memory-one a m r q g h = same-list r q _ g h
+
+pub list-append-one : (a b r q : FlatList) → list-append.Post tt (a, (b, tt)) r (a, (b, tt)) → list-append.Post tt (a, (b, tt)) q (a, (b, tt)) → r ≡ q
+list-append-one a b r q g h = same-list r q _ g h
+
+pub with-pointer-one : (a : FlatList) (m : declared.Memory) (r q : FlatList) → with-pointer.Post tt (a, (m, tt)) r (a, (m, tt)) → with-pointer.Post tt (a, (m, tt)) q (a, (m, tt)) → r ≡ q
+with-pointer-one a m r q g h = same-list r q _ g h

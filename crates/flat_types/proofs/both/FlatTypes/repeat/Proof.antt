@@ -1,0 +1,58 @@
+-- In each memory so many copies.
+use native.Mathlib.Nat.{mul-le-mul-right}
+use native.Mathlib.Omega.{arith}
+use borrow.Author.Needs.{needs}
+use Rattle.canon.specs.Flat.{copies}
+use Rattle.flat_types.specs.Lists.{wordsIn}
+use Rattle.flat_types.proofs.Listing.{holds-by, holds-none, one-none, repeat-none, repeat-is}
+use Rattle.flat_types.proofs.both.FlatTypes.repeat.Statement.{statement}
+use Rattle.flat_types.proofs.both.FlatTypes.repeat.Tie as tie
+
+returns : tie.Need-returns
+returns c = holds-none _ (λ m. one-none (wordsIn m (c .before .args .self)) (copies (c .before .args .n)) 16 (omega arith))
+
+cast-product : tie.Need-cast-product
+cast-product c = search needs
+
+mul-product : tie.Need-mul-product
+mul-product c = record { fits = omega (arith, mul-le-mul-right (c .before .args .n) (c .if1 .left)) }
+
+cast-if2 : tie.Need-cast-if2
+cast-if2 c = search needs
+
+returns-2 : tie.Need-returns-2
+returns-2 c =
+    let a = c .before .before .args in
+    holds-none _ (λ m. repeat-none (wordsIn m (a .self)) (a .n) (c .before .if1 .left) (omega arith))
+
+cast-count : tie.Need-cast-count
+cast-count c = search needs
+
+repeat-word-requires : tie.Need-repeat-word-requires
+repeat-word-requires c κs = search needs
+
+repeat-word-requires-2 : tie.Need-repeat-word-requires-2
+repeat-word-requires-2 c κs = search needs
+
+returns-3 : tie.Need-returns-3
+returns-3 c =
+    let s = c .before .before in
+    let a = s .before .before .args in
+    holds-by _ _
+    (λ m w. repeat-is (wordsIn m (a .self)) (a .n) w (s .before .if1 .left) (s .if2 .left))
+    (c .before .repeat-word .ensures)
+    (c .repeat-word2 .ensures)
+
+pub repeat-spec : {M : Type 1} → statement M
+repeat-spec =
+    tie.close
+    (tie.spec
+    returns
+    cast-product
+    mul-product
+    cast-if2
+    returns-2
+    cast-count
+    repeat-word-requires
+    repeat-word-requires-2
+    returns-3)

@@ -1,0 +1,12 @@
+// Flat types: lists of core types packed two bits each, the first lowest (I32 0, I64 1, F32 2, F64 3).
+mod both;
+mod join;
+mod list;
+mod memory;
+mod packed;
+mod repeat;
+
+pub use both::FlatTypes;
+pub use list::FlatList;
+pub use memory::Memory;
+pub use packed::MAX_FLAT_TYPES;

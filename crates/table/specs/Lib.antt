@@ -1,0 +1,3 @@
+-- What the promises of this crate cite beside canon.
+pub mod Means
+pub mod Rows

@@ -1,0 +1,40 @@
+// The cells of a table: `place` alone says where a word of a row stands.
+ghost use mathlib.Core.Path.{_≡_};
+ghost use Prim.Native.Nat.{_*_, _≤_, _<_};
+ghost use lib.ListN.{length};
+ghost use Rattle.canon.specs.Table.{capacity, place, cell, putFrom};
+
+// How many rows a buffer of so many words has room for.
+pub fn capacity(words: usize) -> usize
+    ensures { λ r. ⌜ (r ≡ capacity words) × (r ≤ 1024) × (16 * r ≤ words) ⌝ }
+{
+    let rows = words / 16;
+    if rows < 1024 { rows } else { 1024 }
+}
+
+fn place(room: usize, row: usize, word: usize) -> usize
+    requires { ⌜ (row < room) × (word < 16) × (room ≤ 1024) ⌝ }
+    ensures { λ r. ⌜ r ≡ place room row word ⌝ }
+{
+    16 * row + word
+}
+
+pub(crate) fn cell(table: &[u32], room: usize, row: usize, word: usize) -> u32
+    requires { ⌜ (row < room) × (word < 16) × (room ≤ 1024) × (16 * room ≤ length (now table)) ⌝ }
+    ensures { λ r. ⌜ r ≡ cell room (now (table .entry)) row word ⌝ }
+{
+    let at = place(room, row, word);
+    table[at]
+}
+
+pub(crate) fn put_words(table: &mut [u32], room: usize, row: usize, words: [u32; 16])
+    requires { ⌜ (row < room) × (room ≤ 1024) × (16 * room ≤ length (now table)) ⌝ }
+    ensures { λ _. ⌜ now (table .exit) ≡ putFrom room row 0 words (now (table .entry)) ⌝ }
+{
+    let mut k: usize = 0;
+    while k < 16 {
+        let at = place(room, row, k);
+        table[at] = words[k];
+        k += 1;
+    }
+}

@@ -1,0 +1,74 @@
+// What the references without a definition stand for: the scalars, String and the handles.
+ghost use mathlib.Core.Path.{_≡_};
+ghost use mathlib.Core.Option.{some};
+ghost use Prim.Native.Nat.{_≤_};
+ghost use lib.ListN.{getElem?};
+ghost use Rattle.canon.specs.Answer.{lift};
+ghost use Rattle.canon.specs.Layout.{Memory, within, layout};
+ghost use Rattle.canon.specs.Description.{plain};
+ghost use Rattle.canon.specs.Question.{plainInfo};
+ghost use Rattle.types.specs.Means.{abiMeans};
+ghost use Rattle.table.specs.Means.{foundMeans, infoWith};
+use crate::info::Info;
+use flat_types::FlatTypes;
+use types::CanonicalAbiInfo;
+use types::Layout;
+
+pub enum Found {
+    Info(Info),
+    BadRef,
+}
+
+const STRING: u32 = 12;
+
+const BORROW: u32 = 14;
+
+const LAST: u32 = 17;
+
+fn scalar(reference: u32) -> CanonicalAbiInfo
+    requires { ⌜ (reference ≤ 17) × (reference ≡ 12 → ⊥) ⌝ }
+    ensures { λ r. ⌜ ((m : Memory) → lift (layout m) (getElem? plain reference) ≡ some (within m (abiMeans r .layouts))) ⌝ }
+{
+    match reference {
+        0 => CanonicalAbiInfo::SCALAR1,
+        1 => CanonicalAbiInfo::SCALAR1,
+        2 => CanonicalAbiInfo::SCALAR1,
+        3 => CanonicalAbiInfo::SCALAR2,
+        4 => CanonicalAbiInfo::SCALAR2,
+        7 => CanonicalAbiInfo::SCALAR8,
+        8 => CanonicalAbiInfo::SCALAR8,
+        10 => CanonicalAbiInfo::SCALAR8,
+        _ => CanonicalAbiInfo::SCALAR4,
+    }
+}
+
+// The info of a type's numbers in both memories, with its flat types.
+fn info(abi: CanonicalAbiInfo, flat: FlatTypes, borrow: bool) -> Info
+    ensures { λ r. ⌜ r ≡ infoWith abi flat borrow ⌝ }
+{
+    Info {
+        in32: Layout {
+            size: abi.size32,
+            align: abi.align32,
+        },
+        in64: Layout {
+            size: abi.size64,
+            align: abi.align64,
+        },
+        flat,
+        borrow,
+    }
+}
+
+pub fn plain_info(reference: u32) -> Found
+    ensures { λ r. ⌜ foundMeans r ≡ plainInfo (getElem? plain reference) ⌝ }
+{
+    if LAST < reference {
+        return Found::BadRef;
+    }
+    let flat = FlatTypes::plain(reference);
+    if reference == STRING {
+        return Found::Info(info(CanonicalAbiInfo::POINTER_PAIR, flat, false));
+    }
+    Found::Info(info(scalar(reference), flat, reference == BORROW))
+}

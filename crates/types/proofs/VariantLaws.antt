@@ -1,0 +1,206 @@
+-- A variant after any cases is 01's: in each memory the greatest payload after the discriminant, the greatest flat count,
+-- the number of cases as far as it matters, and any bad info.
+use mathlib.Core.Path.{_≡_, refl, sym, ap, _∙_}
+use mathlib.Core.Bool.{Bool, true, false, cond, _||_, not}
+use mathlib.Core.List.{List, [], _∷_}
+use mathlib.Core.Option.{Option, none, some}
+use Prim.Native.Nat.{ℕ, _+_, _≤_, _<_, max, min}
+use native.Mathlib.Nat.{zero-add}
+use native.Mathlib.Omega.{arith}
+use lib.Dec.{leb, eqb}
+use lib.ListN.{length}
+use borrow.Author.Tests.{lt-leb, leb-true, leb-false, ne-eqb}
+use Rattle.canon.specs.Answer.{Leaf, is, no, badCount, tooLarge}
+use Rattle.canon.specs.Layout.{
+  mem32,
+  mem64,
+  both,
+  within,
+  Layout,
+  discriminant,
+  greatestAlign,
+  greatestSize,
+  payloadOffset,
+  variantAlign,
+  variantSize,
+  variantLayout,
+  variantNumbers,
+  largestNumber,
+}
+use Rattle.canon.specs.Flat.{greatestFlat}
+use Rattle.canon.specs.Row.{Abi, goodAbi}
+use Rattle.canon.specs.Description.{someAbove}
+use Rattle.canon.proofs.Tightest.{Aligned}
+use Rattle.canon.proofs.Alignments.{variant-alignment, payload-agrees}
+use Rattle.canon.proofs.FlatFolds.{greats, greats-greatest}
+use Rattle.canon.proofs.Sizes.{variant-decides}
+use Rattle.types.specs.Leaves.{
+  given,
+  fitting,
+  inEither,
+  allGood,
+  layoutsIn,
+  flatsOf,
+  discriminantAnswer,
+  payloadsOf,
+  variantAbi,
+  variantAnswer,
+}
+use Rattle.types.specs.declared.extent.VariantExtent.{VariantExtent}
+use Rattle.types.specs.Extents.{reach, widest, variantOf}
+use Rattle.types.specs.States.{andThen, Cases, oneMore, noCases, addCase, addCases, sizedCases, closeCases}
+use Rattle.types.proofs.RoundLaws.{rounded-aligned}
+use Rattle.types.proofs.ExtentLaws.{reach-large}
+use Rattle.types.proofs.AnswerLaws.{fitted-fits, discriminant-then}
+use Rattle.types.proofs.RecordLaws.{all-aligned, or-false, one-bad}
+
+-- the greatest of payloads
+
+abbrev pub greatest : List Layout → Layout
+greatest fs = record { size = greatestSize fs; align = greatestAlign fs }
+
+unfoldable pub widestOf : Layout → List Layout → Layout
+widestOf f [] = f
+widestOf f (g ∷ gs) = widestOf (widest f g) gs
+
+widest-from : (f : Layout) (gs : List Layout) → 1 ≤ f .align → widestOf f gs ≡ widest f (greatest gs)
+unfolding widestOf greatestSize greatestAlign
+widest-from f [] h = sized (omega arith) (omega arith)
+  where
+    sized : f .size ≡ max (f .size) 0 → f .align ≡ max (f .align) 1 → f ≡ record { size = max (f .size) 0; align = max (f .align) 1 }
+    sized p q = rw (sym p, sym q)
+widest-from f (g ∷ gs) h = widest-from (widest f g) gs (omega arith) ∙ same (omega arith) (omega arith)
+  where
+    same :
+        max (max (f .size) (g .size)) (greatestSize gs) ≡ max (f .size) (max (g .size) (greatestSize gs)) →
+        max (max (f .align) (g .align)) (greatestAlign gs) ≡ max (f .align) (max (g .align) (greatestAlign gs)) →
+        widest (widest f g) (greatest gs) ≡ widest f (record { size = max (g .size) (greatestSize gs); align = max (g .align) (greatestAlign gs) })
+    same p q = rw (p, q)
+
+positive : (fs : List Layout) → 1 ≤ greatestAlign fs
+unfolding greatestAlign
+positive [] = omega arith
+positive (f ∷ fs) = omega (arith, positive fs)
+
+pub widest-greatest : (fs : List Layout) → widestOf (record { size = 0; align = 1 }) fs ≡ greatest fs
+widest-greatest fs = widest-from (record { size = 0; align = 1 }) fs (omega arith) ∙ same (omega arith) (omega (arith, positive fs))
+  where
+    same : max 0 (greatestSize fs) ≡ greatestSize fs → max 1 (greatestAlign fs) ≡ greatestAlign fs
+        → widest (record { size = 0; align = 1 }) (greatest fs) ≡ greatest fs
+    same p q = rw (p, q)
+
+-- one memory: canon's payload offset, size and alignment
+pub variant-reach :
+    (n : ℕ) (fs : List Layout) →
+    Aligned fs →
+    variantOf (discriminant n) (greatest fs) ≡ record { «payload_offset» = payloadOffset n fs; extent = reach (variantSize n fs) (variantAlign n fs) }
+unfolding variantOf variantSize
+variant-reach n fs w =
+    let a = variant-alignment n fs w in
+    rw (rounded-aligned (discriminant n) a, payload-agrees n fs w, rounded-aligned (payloadOffset n fs + greatestSize fs) a)
+
+-- large exactly when the payload's start or end or the size is too large
+pub variant-large :
+    (n : ℕ) (fs : List Layout) →
+    Aligned fs →
+    variantOf (discriminant n) (greatest fs) .extent .large ≡ someAbove largestNumber (variantNumbers n fs)
+variant-large n fs w =
+    ap (λ (v : VariantExtent). v .extent .large) (variant-reach n fs w)
+    ∙ reach-large (variantSize n fs) (variantAlign n fs)
+    ∙ sym (variant-decides largestNumber n fs w)
+
+-- the number of cases
+
+unfoldable counted : ℕ → List (Option Abi) → ℕ
+counted k [] = k
+counted k (c ∷ cs) = counted (oneMore k) cs
+
+counted-length : (k : ℕ) (cs : List (Option Abi)) → k ≤ 65537 → counted k cs ≡ min (k + length cs) 65537
+unfolding counted
+counted-length k [] h = omega arith
+counted-length k (c ∷ cs) h = counted-length (oneMore k) cs (omega arith) ∙ omega arith
+
+-- a count that stops at 65,537 tells all discriminants apart
+pub discriminant-stops : (n : ℕ) → discriminantAnswer (min n 65537) ≡ discriminantAnswer n
+unfolding discriminantAnswer
+discriminant-stops n = go (leb n 65536) refl
+  where
+    go : (b : Bool) → leb n 65536 ≡ b → discriminantAnswer (min n 65537) ≡ discriminantAnswer n
+    go true h = let e : min n 65537 ≡ n = omega (arith, leb-true n 65536 h) in ap discriminantAnswer e
+    go false h =
+        let l : 65536 < n = leb-false n 65536 h in
+        let e : min n 65537 ≡ 65537 = omega arith in
+        rw e (simp (lt-leb n 256 (omega arith), lt-leb n 65536 l, ne-eqb n 0 (λ z. omega arith)))
+
+-- the state's parts after the cases
+after : (s : Cases) (cs : List (Option Abi)) →
+    addCases s cs
+    ≡ record {
+      payloads = both (λ m. widestOf (within m (s .payloads)) (layoutsIn m (payloadsOf cs)));
+      flats = greats (s .flats) (flatsOf (payloadsOf cs));
+      count = counted (s .count) cs;
+      bad = s .bad || not (allGood (payloadsOf cs));
+    }
+unfolding addCases addCase widestOf greats counted payloadsOf allGood
+after s [] = ap (λ (b : Bool). record { payloads = s .payloads; flats = s .flats; count = s .count; bad = b }) (sym (or-false (s .bad)))
+after s (none ∷ cs) = after (addCase s none) cs
+after s (some i ∷ cs) =
+    after (addCase s (some i)) cs
+    ∙ ap (λ (b : Bool). record {
+      payloads = both (λ m. widestOf (within m (addCase s (some i) .payloads)) (layoutsIn m (payloadsOf cs)));
+      flats = greats (addCase s (some i) .flats) (flatsOf (payloadsOf cs));
+      count = counted (oneMore (s .count)) cs;
+      bad = b;
+    }) (one-bad (s .bad) (goodAbi i) (allGood (payloadsOf cs)))
+
+and-then-fitting : {A B : Type 0} (ns : List ℕ) (a : A) (k : A → B) → andThen (fitting ns a) (λ x. is (k x)) ≡ fitting ns (k a)
+unfolding andThen fitting
+and-then-fitting ns a k = go (someAbove largestNumber ns)
+  where
+    go : (b : Bool) → andThen (cond b (no tooLarge) (is a)) (λ x. is (k x)) ≡ cond b (no tooLarge) (is (k a))
+    go true = refl
+    go false = refl
+
+-- good payloads after the discriminant of n cases
+sized-answer :
+    (n k : ℕ) (b : Bool) (is′ : List Abi) →
+    allGood is′ ≡ true →
+    sizedCases (discriminant n)
+    (record { payloads = both (λ m. greatest (layoutsIn m is′)); flats = greatestFlat (flatsOf is′); count = k; bad = b })
+    ≡ fitting (inEither (λ m. variantNumbers n (layoutsIn m is′))) (variantAbi n is′)
+unfolding sizedCases
+sized-answer n k b is′ h =
+    rw (variant-reach n (layoutsIn mem32 is′) (all-aligned is′ h mem32), variant-reach n (layoutsIn mem64 is′) (all-aligned is′ h mem64))
+    (ap (λ (l : Leaf Abi). andThen l (λ a. is (record { disc = discriminant n; offsets = both (λ m. payloadOffset n (layoutsIn m is′)); abi = a })))
+    (fitted-fits (λ m. variantNumbers n (layoutsIn m is′)) (λ m. variantLayout n (layoutsIn m is′)) _
+    (λ m. variant-decides largestNumber n (layoutsIn m is′) (all-aligned is′ h m)))
+    ∙ and-then-fitting _ _ _)
+
+-- `VariantState` and `VariantInfo::new`: the variant of these cases
+pub variant-answer : (cs : List (Option Abi)) → closeCases (addCases noCases cs) ≡ variantAnswer cs
+unfolding closeCases variantAnswer given
+variant-answer cs = ap closeCases (after noCases cs) ∙ go (allGood (payloadsOf cs)) refl
+  where
+    state : Bool → Cases
+    state b =
+        record {
+          payloads = both (λ m. widestOf (within m (noCases .payloads)) (layoutsIn m (payloadsOf cs)));
+          flats = greats (noCases .flats) (flatsOf (payloadsOf cs));
+          count = counted (noCases .count) cs;
+          bad = not b;
+        }
+
+    go : (b : Bool) → allGood (payloadsOf cs) ≡ b → closeCases (state (allGood (payloadsOf cs))) ≡ variantAnswer cs
+    go true h =
+        rw (
+          h,
+          widest-greatest (layoutsIn mem32 (payloadsOf cs)),
+          widest-greatest (layoutsIn mem64 (payloadsOf cs)),
+          greats-greatest (flatsOf (payloadsOf cs)),
+          counted-length 0 cs (omega arith),
+          zero-add (length cs),
+          discriminant-stops (length cs),
+        )
+        (discriminant-then (length cs) _
+        ∙ ap (given (not (eqb (length cs) 0)) badCount) (sized-answer (length cs) _ _ (payloadsOf cs) h))
+    go false h = rw h

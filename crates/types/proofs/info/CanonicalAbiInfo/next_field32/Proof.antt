@@ -1,0 +1,30 @@
+-- A good info is aligned, so its field starts where canon starts it.
+use mathlib.Core.Path.{sym, _∙_}
+use Rattle.canon.specs.Layout.{mem32}
+use Rattle.types.specs.Leaves.{given, nextField}
+use Rattle.types.proofs.AnswerLaws.{next-field}
+use borrow.Author.Needs.{needs}
+use Rattle.types.proofs.info.CanonicalAbiInfo.next_field32.Statement.{statement}
+use Rattle.types.proofs.info.CanonicalAbiInfo.next_field32.Tie as tie
+
+is-good-requires : tie.Need-is-good-requires
+is-good-requires c κs = search needs
+
+layout32-requires : tie.Need-layout32-requires
+layout32-requires c κs = search needs
+
+field-after-requires : tie.Need-field-after-requires
+field-after-requires c κs = search needs
+
+returns : tie.Need-returns
+returns c =
+    c .field-after .ensures
+    ∙ simp (c .before .layout32 .ensures) (next-field mem32 _ _ (sym (c .before .before .before .is-good .ensures) ∙ c .before .before .if1 .taken))
+
+returns-2 : tie.Need-returns-2
+unfolding nextField given
+returns-2 c = simp (← c .before .is-good .ensures, c .if1 .left)
+
+pub next-field32-spec : {M : Type 1} → statement M
+next-field32-spec =
+    tie.close (tie.spec is-good-requires layout32-requires field-after-requires returns returns-2)

@@ -1,0 +1,86 @@
+-- What the code's values stand for: 01's number for each refusal and 01's values for each answer.
+use mathlib.Core.Option.{Option, none, some}
+use Prim.Native.Nat.{ℕ}
+use Rattle.canon.specs.Answer.{Leaf, is, no, tooLong, truncated, badKind, badRef, badCount, tooLarge, noRoom, badRow}
+use Rattle.canon.specs.Layout as canon
+use Rattle.canon.specs.Row.{Abi}
+use Rattle.types.specs.Leaves.{Field, VariantAbi}
+use Rattle.types.specs.declared.refusal.Refusal.{Refusal}
+use Rattle.types.specs.declared.refusal.Refusal.the-variants.{TooLong, Truncated, BadKind, BadRef, BadCount, TooLarge, NoRoom, BadRow}
+use Rattle.types.specs.declared.round.Rounded.{Rounded}
+use Rattle.types.specs.declared.round.Rounded.the-variants as rounded
+use Rattle.types.specs.declared.flat.FlatCount.{FlatCount}
+use Rattle.types.specs.declared.flat.FlatCount.the-variants.{Count, None}
+use Rattle.types.specs.declared.discriminant.DiscriminantSize.{DiscriminantSize}
+use Rattle.types.specs.declared.discriminant.DiscriminantSize.the-variants.{Size1, Size2, Size4}
+use Rattle.types.specs.declared.discriminant.DiscriminantAnswer.{DiscriminantAnswer}
+use Rattle.types.specs.declared.discriminant.DiscriminantAnswer.the-variants as discriminant
+use Rattle.types.specs.declared.extent.Layout.{Layout}
+use Rattle.types.specs.declared.info.CanonicalAbiInfo.{CanonicalAbiInfo}
+use Rattle.types.specs.declared.info.InfoAnswer.{InfoAnswer}
+use Rattle.types.specs.declared.info.InfoAnswer.the-variants as info
+use Rattle.types.specs.declared.info.NextField.{NextField}
+use Rattle.types.specs.declared.info.NextField.the-variants as next
+use Rattle.types.specs.declared.variant.VariantAnswer.{VariantAnswer}
+use Rattle.types.specs.declared.variant.VariantAnswer.the-variants as variant
+
+-- 01, "Numbers of refusal"
+abbrev pub numberOf : Refusal → ℕ
+numberOf TooLong = tooLong
+numberOf Truncated = truncated
+numberOf BadKind = badKind
+numberOf BadRef = badRef
+numberOf BadCount = badCount
+numberOf TooLarge = tooLarge
+numberOf NoRoom = noRoom
+numberOf BadRow = badRow
+
+abbrev pub roundedMeans : Rounded → Leaf ℕ
+roundedMeans (rounded.Value v) = is v
+roundedMeans (rounded.Refused r) = no (numberOf r)
+
+abbrev pub countMeans : FlatCount → Option ℕ
+countMeans (Count n) = some n
+countMeans None = none
+
+-- `byte_size`
+abbrev pub bytesOf : DiscriminantSize → ℕ
+bytesOf Size1 = 1
+bytesOf Size2 = 2
+bytesOf Size4 = 4
+
+abbrev pub discriminantMeans : DiscriminantAnswer → Leaf ℕ
+discriminantMeans (discriminant.Size s) = is (bytesOf s)
+discriminantMeans (discriminant.Refused r) = no (numberOf r)
+
+abbrev pub layoutMeans : Layout → canon.Layout
+layoutMeans f = record { size = f .size; align = f .align }
+
+abbrev pub abiMeans : CanonicalAbiInfo → Abi
+abiMeans i =
+    record {
+      layouts =
+          record {
+            in32 = record { size = i .size32; align = i .align32 };
+            in64 = record { size = i .size64; align = i .align64 };
+          };
+      flats = countMeans (i .«flat_count»);
+    }
+
+abbrev pub infoMeans : InfoAnswer → Leaf Abi
+infoMeans (info.Info i) = is (abiMeans i)
+infoMeans (info.Refused r) = no (numberOf r)
+
+abbrev pub nextMeans : NextField → Leaf Field
+nextMeans (next.At o e) = is (record { offset = o; end = e })
+nextMeans (next.Refused r) = no (numberOf r)
+
+abbrev pub variantMeans : VariantAnswer → Leaf VariantAbi
+variantMeans (variant.Variant v i) =
+    is
+    (record {
+      disc = bytesOf (v .size);
+      offsets = record { in32 = v .«payload_offset32»; in64 = v .«payload_offset64» };
+      abi = abiMeans i;
+    })
+variantMeans (variant.Refused r) = no (numberOf r)

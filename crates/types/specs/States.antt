@@ -1,0 +1,105 @@
+-- The states of a record and of a variant, step by step as the code takes them. proofs/RecordLaws and proofs/VariantLaws carry them to 01's answers.
+use mathlib.Core.Bool.{Bool, false, _||_, cond, not}
+use mathlib.Core.List.{List, [], _∷_}
+use mathlib.Core.Option.{Option, none, some}
+use Prim.Native.Nat.{ℕ, _+_, min}
+use Rattle.canon.specs.Answer.{Leaf, is, no, tooLarge, badRow}
+use Rattle.canon.specs.Layout.{Both, both, within, Layout}
+use Rattle.canon.specs.Flat.{addFlat, maxFlat}
+use Rattle.canon.specs.Row.{Abi, goodAbi}
+use Rattle.types.specs.declared.extent.Extent.{Extent}
+use Rattle.types.specs.declared.record.RecordState.{RecordState}
+use Rattle.types.specs.declared.variant.VariantState.{VariantState}
+use Rattle.types.specs.Leaves.{VariantAbi, given, discriminantAnswer}
+use Rattle.types.specs.Means.{countMeans, layoutMeans}
+use Rattle.types.specs.Extents.{startExtent, memberOf, closeOf, widest, variantOf}
+
+-- a refusal stays; an answer goes on
+unfoldable pub andThen : {A B : Type 0} → Leaf A → (A → Leaf B) → Leaf B
+andThen (is a) k = k a
+andThen (no x) k = no x
+
+-- the info of what ends so in the two memories
+unfoldable pub fitted : Both Extent → Option ℕ → Leaf Abi
+fitted es c =
+    cond (es .in32 .large || es .in64 .large)
+    (no tooLarge)
+    (is (record { layouts = both (λ m. record { size = within m es .end; align = within m es .align }); flats = c }))
+
+-- A record
+
+pub record Fields : Type 0 where
+  pub extents : Both Extent
+  pub flats : Option ℕ
+  pub bad : Bool
+
+abbrev pub recordMeans : RecordState → Fields
+recordMeans s = record { extents = record { in32 = s .in32; in64 = s .in64 }; flats = countMeans (s .flat); bad = s .bad }
+
+abbrev pub noFields : Fields
+noFields = record { extents = both (λ m. startExtent); flats = some 0; bad = false }
+
+unfoldable pub addField : Fields → Abi → Fields
+addField s i =
+    record {
+      extents = both (λ m. memberOf (within m (s .extents)) (within m (i .layouts)));
+      flats = addFlat (s .flats) (i .flats);
+      bad = s .bad || not (goodAbi i);
+    }
+
+unfoldable pub addFields : Fields → List Abi → Fields
+addFields s [] = s
+addFields s (i ∷ is′) = addFields (addField s i) is′
+
+-- `CanonicalAbiInfo::record`: 8, then 6
+unfoldable pub closeFields : Fields → Leaf Abi
+closeFields s = given (not (s .bad)) badRow (fitted (both (λ m. closeOf (within m (s .extents)))) (s .flats))
+
+-- A variant
+
+pub record Cases : Type 0 where
+  pub payloads : Both Layout
+  pub flats : Option ℕ
+  pub count : ℕ
+  pub bad : Bool
+
+abbrev pub casesMeans : VariantState → Cases
+casesMeans s =
+    record {
+      payloads = record { in32 = layoutMeans (s .in32); in64 = layoutMeans (s .in64) };
+      flats = countMeans (s .flat);
+      count = s .count;
+      bad = s .bad;
+    }
+
+-- a count that stops where the discriminant grows no more
+abbrev pub oneMore : ℕ → ℕ
+oneMore n = min (n + 1) 65537
+
+abbrev pub noCases : Cases
+noCases = record { payloads = both (λ m. record { size = 0; align = 1 }); flats = some 0; count = 0; bad = false }
+
+unfoldable pub addCase : Cases → Option Abi → Cases
+addCase s none = record { payloads = s .payloads; flats = s .flats; count = oneMore (s .count); bad = s .bad }
+addCase s (some i) =
+    record {
+      payloads = both (λ m. widest (within m (s .payloads)) (within m (i .layouts)));
+      flats = maxFlat (s .flats) (i .flats);
+      count = oneMore (s .count);
+      bad = s .bad || not (goodAbi i);
+    }
+
+unfoldable pub addCases : Cases → List (Option Abi) → Cases
+addCases s [] = s
+addCases s (c ∷ cs) = addCases (addCase s c) cs
+
+-- with a discriminant of d bytes
+unfoldable pub sizedCases : ℕ → Cases → Leaf VariantAbi
+sizedCases d s =
+    andThen
+    (fitted (both (λ m. variantOf d (within m (s .payloads)) .extent)) (addFlat (some 1) (s .flats)))
+    (λ a. is (record { disc = d; offsets = both (λ m. variantOf d (within m (s .payloads)) .«payload_offset»); abi = a }))
+
+-- `VariantInfo::new`: 8, then 5, then 6
+unfoldable pub closeCases : Cases → Leaf VariantAbi
+closeCases s = given (not (s .bad)) badRow (andThen (discriminantAnswer (s .count)) (λ d. sizedCases d s))

@@ -1,0 +1,30 @@
+// The leaves of layout: refusals, rounding, flat counts, one memory's step, and the info of a type in both memories.
+mod discriminant;
+mod extent;
+mod flat;
+mod info;
+mod record;
+mod refusal;
+mod round;
+mod variant;
+
+pub use discriminant::DiscriminantAnswer;
+pub use discriminant::DiscriminantSize;
+pub use extent::Extent;
+pub use extent::Layout;
+pub use extent::VariantExtent;
+pub use flat::FlatCount;
+pub use flat::MAX_FLAT_TYPES;
+pub use flat::add_flat;
+pub use flat::max_flat;
+pub use info::CanonicalAbiInfo;
+pub use info::InfoAnswer;
+pub use info::NextField;
+pub use record::RecordState;
+pub use refusal::Refusal;
+pub use round::Rounded;
+pub use round::align_to;
+pub use round::max;
+pub use variant::VariantAnswer;
+pub use variant::VariantInfo;
+pub use variant::VariantState;

@@ -1,0 +1,31 @@
+// Why a call refuses, in the order of the numbers.
+ghost use mathlib.Core.Path.{_≡_};
+ghost use Rattle.types.specs.Means.{numberOf};
+
+pub enum Refusal {
+    TooLong,
+    Truncated,
+    BadKind,
+    BadRef,
+    BadCount,
+    TooLarge,
+    NoRoom,
+    BadRow,
+}
+
+impl Refusal {
+    pub fn number(self) -> u32
+        ensures { λ r. ⌜ r ≡ numberOf self ⌝ }
+    {
+        match self {
+            Refusal::TooLong => 1,
+            Refusal::Truncated => 2,
+            Refusal::BadKind => 3,
+            Refusal::BadRef => 4,
+            Refusal::BadCount => 5,
+            Refusal::TooLarge => 6,
+            Refusal::NoRoom => 7,
+            Refusal::BadRow => 8,
+        }
+    }
+}

@@ -1,0 +1,64 @@
+// Rounding up to an alignment, and the greater of two numbers.
+ghost use mathlib.Core.Path.{_≡_};
+ghost use Prim.Native.Nat.{max};
+ghost use Rattle.canon.specs.Row.{isAlignment};
+ghost use Rattle.types.specs.Means.{roundedMeans};
+ghost use Rattle.types.specs.Leaves.{alignTo};
+ghost use Rattle.types.specs.Extents.{rounded, lowBits};
+use crate::Refusal;
+
+// The greatest start, end or size.
+pub(crate) const LARGEST: u64 = 4294967295;
+
+pub enum Rounded {
+    Value(u32),
+    Refused(Refusal),
+}
+
+// Each alignment is a bit of one number, so that nothing branches on which one it is.
+pub(crate) fn is_alignment(a: u32) -> bool
+    ensures { λ r. ⌜ r ≡ isAlignment a ⌝ }
+{
+    if a <= 8 {
+        (0x116u32 >> a) % 2 == 1
+    } else {
+        false
+    }
+}
+
+// The bits that rounding clears. What is no alignment clears none.
+fn low_bits(a: u32) -> u64
+    ensures { λ r. ⌜ r ≡ lowBits a ⌝ }
+{
+    if is_alignment(a) { a as u64 - 1 } else { 0 }
+}
+
+// The mask of the Rust, in 64 bits, where the sum cannot wrap.
+pub(crate) fn round_up(a: u32, b: u32) -> u64
+    ensures { λ r. ⌜ r ≡ rounded a b ⌝ }
+{
+    let x = a as u64;
+    let low = low_bits(b);
+    (x + low) & !low
+}
+
+pub fn align_to(a: u32, b: u32) -> Rounded
+    ensures { λ r. ⌜ roundedMeans r ≡ alignTo a b ⌝ }
+{
+    if is_alignment(b) {
+        let v = round_up(a, b);
+        if v <= LARGEST {
+            Rounded::Value(v as u32)
+        } else {
+            Rounded::Refused(Refusal::TooLarge)
+        }
+    } else {
+        Rounded::Refused(Refusal::BadRow)
+    }
+}
+
+pub fn max(a: u32, b: u32) -> u32
+    ensures { λ r. ⌜ r ≡ max a b ⌝ }
+{
+    if a > b { a } else { b }
+}

@@ -1,0 +1,140 @@
+// A variant, one case after another. The state counts its cases and remembers a bad info, and `VariantInfo::new` tells the first refusal.
+ghost use mathlib.Core.Path.{_≡_};
+ghost use mathlib.Core.Option.{none, some};
+ghost use Rattle.types.specs.Leaves.{infoAlone};
+ghost use Rattle.types.specs.Means.{bytesOf, abiMeans, infoMeans, variantMeans};
+ghost use Rattle.types.specs.States.{casesMeans, oneMore, noCases, addCase, sizedCases, closeCases};
+use crate::discriminant::DiscriminantAnswer;
+use crate::discriminant::DiscriminantSize;
+use crate::extent::Extent;
+use crate::extent::Layout;
+use crate::flat::FlatCount;
+use crate::flat::add_flat;
+use crate::flat::max_flat;
+use crate::info::CanonicalAbiInfo;
+use crate::info::InfoAnswer;
+use crate::refusal::Refusal;
+
+// The first number of cases whose discriminant takes four bytes; a count above it tells nothing more.
+const ENOUGH: u32 = 65537;
+
+pub struct VariantState {
+    in32: Layout,
+    in64: Layout,
+    flat: FlatCount,
+    count: u32,
+    bad: bool,
+}
+
+pub struct VariantInfo {
+    pub size: DiscriminantSize,
+    pub payload_offset32: u32,
+    pub payload_offset64: u32,
+}
+
+pub enum VariantAnswer {
+    Variant(VariantInfo, CanonicalAbiInfo),
+    Refused(Refusal),
+}
+
+fn one_more(count: u32) -> u32
+    ensures { λ r. ⌜ r ≡ oneMore count ⌝ }
+{
+    if count < ENOUGH { count + 1 } else { ENOUGH }
+}
+
+impl VariantState {
+    pub fn start() -> VariantState
+        ensures { λ r. ⌜ casesMeans r ≡ noCases ⌝ }
+    {
+        VariantState {
+            in32: Layout { size: 0, align: 1 },
+            in64: Layout { size: 0, align: 1 },
+            flat: FlatCount::Count(0),
+            count: 0,
+            bad: false,
+        }
+    }
+
+    // A case without a payload.
+    pub fn bare(self) -> VariantState
+        ensures { λ r. ⌜ casesMeans r ≡ addCase (casesMeans self) none ⌝ }
+    {
+        let in32 = self.in32;
+        let in64 = self.in64;
+        let flat = self.flat;
+        VariantState {
+            in32,
+            in64,
+            flat,
+            count: one_more(self.count),
+            bad: self.bad,
+        }
+    }
+
+    // A case that holds what the info is of.
+    pub fn payload(self, info: CanonicalAbiInfo) -> VariantState
+        ensures { λ r. ⌜ casesMeans r ≡ addCase (casesMeans self) (some (abiMeans info)) ⌝ }
+    {
+        let in32 = self.in32;
+        let in64 = self.in64;
+        let flat = self.flat;
+        let count = info.flat_count;
+        VariantState {
+            in32: in32.widest(info.layout32()),
+            in64: in64.widest(info.layout64()),
+            flat: max_flat(flat, count),
+            count: one_more(self.count),
+            bad: self.bad | !info.is_good(),
+        }
+    }
+}
+
+impl VariantInfo {
+    pub fn new(cases: VariantState) -> VariantAnswer
+        ensures { λ r. ⌜ variantMeans r ≡ closeCases (casesMeans cases) ⌝ }
+    {
+        if cases.bad {
+            return VariantAnswer::Refused(Refusal::BadRow);
+        }
+        match DiscriminantSize::from_count(cases.count) {
+            DiscriminantAnswer::Size(size) => VariantInfo::sized(size, cases),
+            DiscriminantAnswer::Refused(why) => VariantAnswer::Refused(why),
+        }
+    }
+
+    // The variant whose discriminant has this size.
+    fn sized(size: DiscriminantSize, cases: VariantState) -> VariantAnswer
+        ensures { λ r. ⌜ variantMeans r ≡ sizedCases (bytesOf size) (casesMeans cases) ⌝ }
+    {
+        let payload32 = cases.in32;
+        let payload64 = cases.in64;
+        let flat = cases.flat;
+        let in32 = Extent::variant(size, payload32);
+        let in64 = Extent::variant(size, payload64);
+        let whole32 = in32.extent;
+        let whole64 = in64.extent;
+        match CanonicalAbiInfo::fitted(whole32, whole64, add_flat(FlatCount::Count(1), flat)) {
+            InfoAnswer::Info(info) => VariantAnswer::Variant(
+                VariantInfo {
+                    size,
+                    payload_offset32: in32.payload_offset,
+                    payload_offset64: in64.payload_offset,
+                },
+                info,
+            ),
+            InfoAnswer::Refused(why) => VariantAnswer::Refused(why),
+        }
+    }
+}
+
+impl CanonicalAbiInfo {
+    pub fn variant(cases: VariantState) -> InfoAnswer
+        ensures { λ r. ⌜ infoMeans r ≡ infoAlone (closeCases (casesMeans cases)) ⌝ }
+    {
+        match VariantInfo::new(cases) {
+            VariantAnswer::Variant(_, info) => InfoAnswer::Info(info),
+            VariantAnswer::Refused(why) => InfoAnswer::Refused(why),
+        }
+    }
+}
