@@ -104,7 +104,7 @@ discriminant-alignment n = go (leb n 256) (leb n 65536)
     go false false = by4
 
 -- each law of a flags type, from its four shapes
-flags-by : (P : Layout → Type 0) → P (record { size = 0; align = 1 }) → P (square 1) → P (square 2) → P (square 4) → (n : ℕ) → P (flagsLayout n)
+pub flags-by : (P : Layout → Type 0) → P (record { size = 0; align = 1 }) → P (square 1) → P (square 2) → P (square 4) → (n : ℕ) → P (flagsLayout n)
 flags-by P p0 p1 p2 p4 n = go (leb n 0) (leb n 8) (leb n 16)
   where
     go : (a b c : Bool) → P (cond a (record { size = 0; align = 1 }) (cond b (square 1) (cond c (square 2) (square 4))))

@@ -68,7 +68,7 @@ abi-tested mem32 a h = layout-tested (a .layouts .in32) (both-true (goodLayout (
 abi-tested mem64 a h = layout-tested (a .layouts .in64) (both-true _ _ (both-true (goodLayout (a .layouts .in32)) _ h .1) .0)
 
 -- what holds of every type's info and of every good row's info holds of what is read
-read-has :
+pub read-has :
     (P : Info → Type 0) → ((t : Ty) → P (infoOf t)) → ((r : List ℕ) → isGood r ≡ true → P (rowInfo r)) →
     (t : List ℕ) (n w : ℕ) (i : Info) → read t n w ≡ is i → P i
 unfolding read readRow plainInfo

@@ -123,10 +123,10 @@ pub record Sound (room : ℕ) (ts : List Ty) : Type 0 where
   pub definitions : Every Definition ts
   pub fits : length ts ≤ room
 
-abbrev Keeps : ℕ → ℕ → List Ty → Type 0
+abbrev pub Keeps : ℕ → ℕ → List Ty → Type 0
 Keeps room left ts = Every Definition ts × (left + length ts ≤ room)
 
-keeps-step : (room left : ℕ) (ts : List Ty) (w : ℕ) (ws : List ℕ) (d : Defined) → define ts w ws ≡ is d → Keeps room (suc left) ts → Keeps room left (ts ++ d .type ∷ [])
+pub keeps-step : (room left : ℕ) (ts : List Ty) (w : ℕ) (ws : List ℕ) (d : Defined) → define ts w ws ≡ is d → Keeps room (suc left) ts → Keeps room left (ts ++ d .type ∷ [])
 keeps-step room left ts w ws d e h =
     (every-snoc ts (d .type) (h .0) (define-definition ts (kindOf w) ws d e), omega (arith, length-append ts (d .type ∷ [])))
 
@@ -193,7 +193,7 @@ row-read ts t j room s fits h =
     )
 
 -- reading any reference of a table whose first rows are those of ts gives what the types say
-rows-read : (ts : List Ty) (t : List ℕ) (n w : ℕ) → Sound (capacity (length t)) ts → n ≤ length ts →
+pub rows-read : (ts : List Ty) (t : List ℕ) (n w : ℕ) → Sound (capacity (length t)) ts → n ≤ length ts →
     read (putRows (capacity (length t)) 0 (map rowOf ts) t) n w ≡ typeInfo (take n ts) w
 unfolding read reference
 rows-read ts t n w s le = go (leb 64 w)

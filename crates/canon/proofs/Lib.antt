@@ -14,3 +14,4 @@ pub mod Cells
 pub mod Rows
 pub mod Built
 pub mod Asked
+pub mod Stopped

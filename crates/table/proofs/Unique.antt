@@ -8,6 +8,7 @@ use denote.Ref.{RefT, at-last}
 use Rattle.canon.specs.Row as canon
 use Rattle.canon.specs.Row.{countWord}
 use Rattle.canon.proofs.Rows.{countWord-countOf}
+use Rattle.types.proofs.Told.{told}
 use Rattle.table.specs.Means.{infoMeans, foundMeans}
 use Rattle.table.specs.declared.info.DefinitionIndex.{DefinitionIndex}
 use Rattle.table.specs.declared.info.Info.{Info}
@@ -22,7 +23,7 @@ use Rattle.table.proofs.row.row_info.Reads as row-info
 use Rattle.table.proofs.row.row_marks.Reads as row-marks
 
 -- an info from its meaning
-abbrev back : canon.Info → Info
+abbrev pub back : canon.Info → Info
 back x =
     record {
       in32 = record { size = x .abi .layouts .in32 .size; align = x .abi .layouts .in32 .align };
@@ -31,13 +32,13 @@ back x =
       borrow = x .borrow;
     }
 
-back-again : (i : Info) → back (infoMeans i) ≡ i
+pub back-again : (i : Info) → back (infoMeans i) ≡ i
 back-again i =
     ap (λ (n : ℕ). record { in32 = i .in32; in64 = i .in64; flat = record { count = n; memory32 = i .flat .memory32; memory64 = i .flat .memory64 }; borrow = i .borrow })
     (countWord-countOf (i .flat .count))
 
 pub same-info : (i j : Info) → infoMeans i ≡ infoMeans j → i ≡ j
-same-info i j e = sym (back-again i) ∙ ap back e ∙ back-again j
+same-info = told infoMeans back back-again
 
 pub same-found : (f g : Found) → foundMeans f ≡ foundMeans g → f ≡ g
 same-found (found.Info i) (found.Info j) e = let m : infoMeans i ≡ infoMeans j = cc in ap found.Info (same-info i j m)

@@ -5,6 +5,7 @@ pub mod AnswerLaws
 pub mod RecordLaws
 pub mod VariantLaws
 pub mod Runs
+pub mod Told
 pub mod Unique
 mod Fold
 mod Infos

@@ -53,6 +53,7 @@ use Rattle.types.specs.Means.{
   variantMeans,
 }
 use Rattle.types.specs.States.{Fields, recordMeans, Cases, casesMeans}
+use Rattle.types.proofs.Told.{told, refusalOf, refusal-back}
 use Rattle.types.proofs.refusal.Refusal.number.Reads as number-reads
 use Rattle.types.proofs.round.align_to.Reads as align-to-reads
 use Rattle.types.proofs.round.max.Reads as max-reads
@@ -82,27 +83,6 @@ use Rattle.types.proofs.variant.VariantState.bare.Reads as bare-reads
 use Rattle.types.proofs.variant.VariantState.payload.Reads as payload-reads
 use Rattle.types.proofs.variant.VariantInfo.new.Reads as variant-reads
 use Rattle.types.proofs.info.CanonicalAbiInfo.record_static as record-static
-
--- what can be read back is told apart
-told : {A B : Type 0} (f : A → B) (g : B → A) → ((x : A) → g (f x) ≡ x) → (x y : A) → f x ≡ f y → x ≡ y
-told f g back x y e = sym (back x) ∙ ap g e ∙ back y
-
-abbrev refusalOf : ℕ → Refusal
-refusalOf n =
-    cond (eqb n 1) TooLong
-    (cond (eqb n 2) Truncated
-    (cond (eqb n 3) BadKind
-    (cond (eqb n 4) BadRef (cond (eqb n 5) BadCount (cond (eqb n 6) TooLarge (cond (eqb n 7) NoRoom BadRow))))))
-
-refusal-back : (r : Refusal) → refusalOf (numberOf r) ≡ r
-refusal-back TooLong = refl
-refusal-back Truncated = refl
-refusal-back BadKind = refl
-refusal-back BadRef = refl
-refusal-back BadCount = refl
-refusal-back TooLarge = refl
-refusal-back NoRoom = refl
-refusal-back BadRow = refl
 
 abbrev countFrom : Option ℕ → FlatCount
 countFrom none = None

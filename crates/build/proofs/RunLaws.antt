@@ -1,0 +1,156 @@
+-- The loop of a build, in canon's own recursion: what holds of the rows written, the place and the table, and what each way out of the loop answers.
+use mathlib.Core.Path.{_≡_, refl, sym, ap, _∙_}
+use mathlib.Core.List.{List, [], _∷_, _++_, map}
+use mathlib.Core.Option.{Option, none, some}
+use Prim.Native.Nat.{ℕ, zero, suc, _+_, _-_, _≤_, _<_}
+use native.Mathlib.Nat.{sub-zero}
+use native.Mathlib.Numerals.{add-one}
+use native.Mathlib.Omega.{arith}
+use lib.ListN.{length, getD, drop, drop-of-length-le, length-append, length-map}
+use lib.Seq.{drop-cons, drop-drop}
+use borrow.Author.Tests.{lt-ltb, le-ltb}
+use Rattle.canon.specs.Answer.{Leaf, is, no as refuses, Answer, ok, refused, tooLong, noRoom}
+use Rattle.canon.specs.Types.{Ty}
+use Rattle.canon.specs.Row.{rowOf}
+use Rattle.canon.specs.Table.{capacity, putFrom, putRows}
+use Rattle.canon.specs.Description.{Defined, define, Built, follow, buildFrom, mostWords, build, answered, built, buildAnswer, tableAfter}
+use Rattle.canon.proofs.Tests.{impossible}
+use Rattle.canon.proofs.Cells.{length-putRows, putRows-snoc}
+use Rattle.canon.proofs.Built.{Sound}
+use Rattle.canon.proofs.Stopped.{sound-more}
+use Rattle.table.specs.Rows.{tableWith}
+use Rattle.table.proofs.Reading.{put-there}
+use Rattle.build.specs.Steps.{memberLook}
+use Rattle.build.specs.Kinds.{DefinedIs, definedAt}
+use Rattle.build.proofs.LookLaws.{look-built}
+use Rattle.build.proofs.DefinitionLaws.{definedLeaf, defined-at, moves-on}
+
+abbrev stop : List Ty → Option ℕ → Built
+stop ts o = record { types = ts; stopped = o }
+
+-- the table t with the rows of the types
+abbrev rowsOf : List Ty → List ℕ → List ℕ
+rowsOf ts t = putRows (capacity (length t)) 0 (map rowOf ts) t
+
+-- the types so far, i of them, have their rows in the table u, which was lent as t; from the place at on the rest of the words ws is still to be built
+pub record Running (ws t u : List ℕ) (i at : ℕ) : Type 0 where
+  pub types : List Ty
+  pub counted : length types ≡ i
+  pub sound : Sound (capacity (length t)) types
+  pub held : u ≡ putRows (capacity (length t)) 0 (map rowOf types) t
+  pub inside : at ≤ length ws
+  pub rest : buildFrom (capacity (length t) - i) types (drop at ws) ≡ buildFrom (capacity (length t)) [] ws
+
+-- the answer a and the table u are canon's
+pub record Answered (ws t u : List ℕ) (a : Answer ℕ) : Type 0 where
+  pub answer : a ≡ buildAnswer ws t
+  pub table : u ≡ tableAfter ws t
+
+answers : (ws t : List ℕ) (ts : List Ty) (o : Option ℕ) → built ws t ≡ stop ts o → Answered ws t (rowsOf ts t) (answered (length ts) o)
+unfolding buildAnswer tableAfter
+answers ws t ts o e = record { answer = rw e; table = rw e }
+
+-- Before the loop
+
+pub too-long : (ws t : List ℕ) → mostWords < length ws → Answered ws t t (refused tooLong 0)
+unfolding build putRows
+too-long ws t h = answers ws t [] (some tooLong) (rw (lt-ltb mostWords (length ws) h))
+
+pub begins : (ws t : List ℕ) → Running ws t t 0 0
+unfolding putRows
+begins ws t =
+    record {
+      types = [];
+      counted = refl;
+      sound = record { definitions = tt; fits = omega arith };
+      held = refl;
+      inside = omega arith;
+      rest = ap (λ (r : ℕ). buildFrom r [] ws) (sub-zero (capacity (length t)));
+    }
+
+map-snoc : (ts : List Ty) (t : Ty) → map rowOf (ts ++ t ∷ []) ≡ map rowOf ts ++ rowOf t ∷ []
+map-snoc [] t = refl
+map-snoc (u ∷ ts) t = ap (λ (rs : List (List ℕ)). rowOf u ∷ rs) (map-snoc ts t)
+
+module _ {ws t u : List ℕ} {i at : ℕ} (r : Running ws t u i at) where
+  abbrev room : ℕ
+  room = capacity (length t)
+
+  -- the table keeps its length
+  pub same-length : length u ≡ length t
+  same-length = ap length (r .held) ∙ length-putRows room 0 (map rowOf (r .types)) t
+
+  -- Ways out: where canon's build stops after the types so far
+
+  settled : (o : Option ℕ) → buildFrom (room - i) (r .types) (drop at ws) ≡ stop (r .types) o → length ws ≤ mostWords → Answered ws t u (answered i o)
+  unfolding build
+  settled o e short =
+      rw (r .held, ← (r .counted)) (answers ws t (r .types) o (rw (le-ltb mostWords (length ws) short) (sym (r .rest) ∙ e)))
+
+  pub ends : length ws ≤ mostWords → length ws ≤ at → Answered ws t u (ok i)
+  unfolding buildFrom
+  ends short h = settled none (rw (drop-of-length-le ws {i = at} h) (go (room - i))) short
+    where
+      go : (k : ℕ) → buildFrom k (r .types) [] ≡ stop (r .types) none
+      go zero = refl
+      go (suc k) = refl
+
+  pub no-room : length ws ≤ mostWords → at < length ws → room ≤ i → Answered ws t u (refused noRoom i)
+  unfolding buildFrom
+  no-room short h l =
+      let e : room - i ≡ 0 = omega arith in
+      settled (some noRoom) (rw (e, drop-cons ws at 0 h)) short
+
+  -- The definition at the place is canon's
+
+  abbrev verdict : Leaf Defined
+  verdict = define (r .types) (getD ws at 0) (drop (at + 1) ws)
+
+  judged : at < length ws → definedAt (memberLook u i) ws at ≡ definedLeaf at verdict
+  judged h = rw (r .held, ← (r .counted), look-built t (r .types) (r .sound)) (defined-at (r .types) ws at h)
+
+  abbrev followed : Leaf Defined → Built
+  followed v = follow (r .types) (drop (at + 1) ws) v (λ ts ws′. buildFrom (room - (i + 1)) ts ws′)
+
+  opened : at < length ws → i < room → buildFrom (room - i) (r .types) (drop at ws) ≡ followed verdict
+  unfolding buildFrom
+  opened h l =
+      let e : room - i ≡ suc (room - (i + 1)) = omega arith in
+      rw (e, drop-cons ws at 0 h, add-one at)
+
+  pub stops : (x : ℕ) → definedAt (memberLook u i) ws at ≡ refuses x → length ws ≤ mostWords → at < length ws → i < room → Answered ws t u (refused x i)
+  stops x e short h l = settled (some x) (opened h l ∙ go verdict (sym (judged h) ∙ e)) short
+    where
+      go : (v : Leaf Defined) → definedLeaf at v ≡ refuses x → followed v ≡ stop (r .types) (some x)
+      go (is d) q = impossible (cc)
+      go (refuses y) q = let p : y ≡ x = cc in ap (λ (z : ℕ). stop (r .types) (some z)) p
+
+  -- One row more
+
+  put : (x : Ty) → i < room → tableWith u i (rowOf x) ≡ rowsOf (r .types ++ x ∷ []) t
+  put x l =
+      put-there u room i (ap capacity (sym same-length)) (rowOf x) l
+      ∙ ap (putFrom room i 0 (rowOf x)) (r .held)
+      ∙ ap (λ (n : ℕ). putFrom room n 0 (rowOf x) (rowsOf (r .types) t)) (omega (arith, r .counted, length-map (r .types) rowOf))
+      ∙ sym (putRows-snoc room 0 (map rowOf (r .types)) (rowOf x) t)
+      ∙ ap (λ (rs : List (List ℕ)). putRows room 0 rs t) (sym (map-snoc (r .types) x))
+
+  pub goes-on : (d : DefinedIs) → definedAt (memberLook u i) ws at ≡ is d → at < length ws → i < room → Running ws t (tableWith u i (d .row)) (i + 1) (d .next)
+  goes-on d e h l = go verdict refl (sym (judged h) ∙ e)
+    where
+      go : (v : Leaf Defined) → verdict ≡ v → definedLeaf at v ≡ is d → Running ws t (tableWith u i (d .row)) (i + 1) (d .next)
+      go (refuses x) p q = impossible (cc)
+      go (is x) p q =
+          let same : record { row = rowOf (x .type); next = at + 1 + x .length } ≡ d = cc in
+          record {
+            types = r .types ++ x .type ∷ [];
+            counted = length-append (r .types) (x .type ∷ []) ∙ omega (arith, r .counted);
+            sound = sound-more room (r .types) (getD ws at 0) (drop (at + 1) ws) x p (r .sound) (omega (arith, r .counted));
+            held = rw (← same) (put (x .type) l);
+            inside = moves-on (memberLook u i) ws at d e .1;
+            rest =
+                rw (← same)
+                (ap (buildFrom (room - (i + 1)) (r .types ++ x .type ∷ [])) (sym (drop-drop (x .length) (at + 1) ws))
+                ∙ sym (opened h l ∙ ap followed p)
+                ∙ r .rest);
+          }

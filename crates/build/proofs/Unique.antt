@@ -1,0 +1,28 @@
+-- No second outcome meets the promise of `build`: neither another answer nor another word of the table.
+use mathlib.Core.Path.{_≡_, refl, sym, ap, _∙_}
+use mathlib.Core.List.{List}
+use Prim.Native.Nat.{ℕ}
+use contract.Lifetimes.{Lfts}
+use denote.Ref.{RefT, at-last}
+use Rattle.canon.specs.Answer.{Answer, ok, refused}
+use Rattle.types.proofs.Told.{told, refusalOf, refusal-back}
+use Rattle.types.specs.declared.refusal.Refusal.{Refusal}
+use Rattle.build.specs.Means.{builtMeans}
+use Rattle.build.specs.declared.Built.{Built}
+use Rattle.build.specs.declared.Built.the-variants as built
+use Rattle.build.proofs.build.Reads as build
+
+abbrev back : Answer ℕ → Built
+back (ok n) = built.Rows n
+back (refused x i) = built.Refused (refusalOf x) (record { 0 = i })
+
+back-again : (r : Built) → back (builtMeans r) ≡ r
+back-again (built.Rows n) = refl
+back-again (built.Refused x i) = ap (λ (y : Refusal). built.Refused y i) (refusal-back x)
+
+pub build-one :
+    (κs : Lfts 2) (ws t : RefT (List ℕ)) (r q : Built) (l k : List ℕ) →
+    build.Post κs (ws, (t, tt)) r (ws, (at-last t l, tt)) →
+    build.Post κs (ws, (t, tt)) q (ws, (at-last t k, tt)) →
+    (r ≡ q) × (l ≡ k)
+build-one κs ws t r q l k g h = (told builtMeans back back-again r q (g .0 ∙ sym (h .0)), g .1 ∙ sym (h .1))

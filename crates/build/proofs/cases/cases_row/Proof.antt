@@ -1,0 +1,105 @@
+-- The loop: what is left of the cases, from the state so far, gives the whole (Folding).
+use Rattle.types.specs.Means.{bytesOf}
+use Rattle.build.specs.Means.{payloadsMeans, joinedMeans}
+use Rattle.build.specs.Steps.{foldRefs, refsAt, caseLook, memberLook, noPayloads, addCase, payloadsRow}
+use denote.Ref.{now}
+use mathlib.Core.Path.{_≡_, sym, ap, _∙_}
+use Prim.Native.Nat.{_+_, _-_, _≤_}
+use native.Mathlib.Omega.{arith}
+use lib.ListN.{length}
+use borrow.Author.Needs.{needs}
+use Rattle.build.proofs.Folding.{turn, stop, over, all-refs}
+use Rattle.build.proofs.cases.cases_row.Statement.{statement}
+use Rattle.build.proofs.cases.cases_row.Tie as tie
+
+abbrev Inv-loop : tie.InvT-loop
+Inv-loop words first n table index kind size end payloads₀ at₀ payloads at = (first ≤ at) × (at ≤ end) × (end ≤ length words) × (foldRefs (caseLook (memberLook table (index .0))) addCase (refsAt words at (end - at)) (payloadsMeans payloads) (payloadsRow kind (bytesOf size)) ≡ foldRefs (caseLook (memberLook table (index .0))) addCase (refsAt words first n) noPayloads (payloadsRow kind (bytesOf size)))
+
+abbrev μ-loop : tie.MeasureT-loop
+μ-loop words first n table index kind size end payloads₀ at₀ payloads at = end - at
+
+add-end : tie.Need-add-end Inv-loop μ-loop
+add-end c = search needs
+
+start-requires : tie.Need-start-requires Inv-loop μ-loop
+start-requires c κs = search needs
+
+loop-holds : tie.Need-loop-holds Inv-loop μ-loop
+loop-holds c = 
+    let a = c .before .before .before .args in
+    let look = caseLook (memberLook (now (a .table)) (a .index .0)) in
+    let row = payloadsRow (a .kind) (bytesOf (a .size)) in
+    (omega arith, omega arith, c .before .before .before .pre, rw (c .start .ensures, all-refs (now (a .words)) (a .first) (a .n)))
+
+mul-add-case : tie.Need-mul-add-case Inv-loop μ-loop
+mul-add-case c = search needs
+
+shared-slice-read-add-case : tie.Need-shared-slice-read-add-case Inv-loop μ-loop
+shared-slice-read-add-case c = search needs
+
+add-case-requires : tie.Need-add-case-requires Inv-loop μ-loop
+add-case-requires c κs = search needs
+
+enum-told : tie.Need-enum-told Inv-loop μ-loop
+enum-told c = search needs
+
+returns : tie.Need-returns Inv-loop μ-loop
+returns c = 
+    let a = c .before .before .before .before .before .before .before .before .before .args in
+    let look = caseLook (memberLook (now (a .table)) (a .index .0)) in
+    let row = payloadsRow (a .kind) (bytesOf (a .size)) in
+    let l = c .before .before .before .before .before .loop in
+    sym (stop look addCase row (now (a .words)) (l .at) (a .first + a .n) (payloadsMeans (l .payloads)) 4 (sym (c .before .before .add-case .ensures) ∙ ap joinedMeans (c .enum-told .given .1)) (omega arith) (omega arith)) ∙ l .inv .3
+
+enum-known-more : tie.Need-enum-known-more Inv-loop μ-loop
+enum-known-more c = search needs
+
+add-at : tie.Need-add-at Inv-loop μ-loop
+add-at c = search needs
+
+loop-less : tie.Need-loop-less Inv-loop μ-loop
+loop-less c = search needs
+
+loop-again : tie.Need-loop-again Inv-loop μ-loop
+loop-again c = 
+    let a = c .before .before .before .before .before .before .before .before .before .before .args in
+    let look = caseLook (memberLook (now (a .table)) (a .index .0)) in
+    let row = payloadsRow (a .kind) (bytesOf (a .size)) in
+    let l = c .before .before .before .before .before .before .loop in (
+      omega arith,
+      omega arith,
+      omega arith,
+      sym (turn look addCase row (now (a .words)) (l .at) (a .first + a .n) (payloadsMeans (l .payloads)) _ (sym (c .before .before .before .add-case .ensures) ∙ ap joinedMeans (c .before .more .given .1)) (omega arith) (omega arith)) ∙ l .inv .3,
+    )
+
+row-requires : tie.Need-row-requires Inv-loop μ-loop
+row-requires c κs = search needs
+
+returns-2 : tie.Need-returns-2 Inv-loop μ-loop
+returns-2 c = 
+    let a = c .before .before .before .before .before .before .args in
+    let look = caseLook (memberLook (now (a .table)) (a .index .0)) in
+    let row = payloadsRow (a .kind) (bytesOf (a .size)) in
+    let l = c .before .before .loop in
+    c .row .ensures ∙ sym (over look addCase row (now (a .words)) (l .at) (a .first + a .n) (payloadsMeans (l .payloads)) (omega arith)) ∙ l .inv .3
+
+pub cases-row-spec : {M : Type 1} → statement M
+cases-row-spec =
+    tie.close
+    (tie.spec
+    Inv-loop
+    μ-loop
+    add-end
+    start-requires
+    loop-holds
+    mul-add-case
+    shared-slice-read-add-case
+    add-case-requires
+    enum-told
+    returns
+    enum-known-more
+    add-at
+    loop-less
+    loop-again
+    row-requires
+    returns-2)

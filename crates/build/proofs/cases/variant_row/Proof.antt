@@ -1,0 +1,43 @@
+-- No case is refused; else the cases.
+use mathlib.Core.Path.{sym, ap, _∙_}
+use Rattle.types.specs.Leaves.{discriminantAnswer}
+use Rattle.types.specs.Means.{bytesOf, discriminantMeans}
+use Rattle.build.specs.Steps.{andThen}
+use Rattle.build.specs.Kinds.{variantRow}
+use Rattle.build.proofs.Wording.{then-is}
+use borrow.Author.Needs.{needs}
+use Rattle.build.proofs.cases.variant_row.Statement.{statement}
+use Rattle.build.proofs.cases.variant_row.Tie as tie
+
+from-count-requires : tie.Need-from-count-requires
+from-count-requires c κs = search needs
+
+enum-known-why : tie.Need-enum-known-why
+enum-known-why c = search needs
+
+enum-known-size : tie.Need-enum-known-size
+enum-known-size c = search needs
+
+cases-row-requires : tie.Need-cases-row-requires
+cases-row-requires c κs = search needs
+
+returns : tie.Need-returns
+unfolding variantRow andThen
+returns c = simp (← c .before .before .before .from-count .ensures, c .before .why .given .1)
+
+returns-2 : tie.Need-returns-2
+unfolding variantRow
+returns-2 c = 
+    let s = c .before .before .size .given in
+    c .cases-row .ensures ∙ sym (then-is (discriminantAnswer (c .before .before .before .before .before .before .before .args .n)) (bytesOf (s .0 .0)) _ (sym (c .before .before .before .before .from-count .ensures) ∙ ap discriminantMeans (s .1)))
+
+pub variant-row-spec : {M : Type 1} → statement M
+variant-row-spec =
+    tie.close
+    (tie.spec
+    from-count-requires
+    enum-known-why
+    enum-known-size
+    cases-row-requires
+    returns
+    returns-2)

@@ -1,0 +1,50 @@
+-- The head, then the row of its kind.
+use Rattle.build.specs.Steps.{andThen}
+use Rattle.build.specs.Kinds.{definedAt}
+use borrow.Author.Needs.{needs}
+use Rattle.build.proofs.define.define.Statement.{statement}
+use Rattle.build.proofs.define.define.Tie as tie
+
+read-head-requires : tie.Need-read-head-requires
+read-head-requires c κs = search needs
+
+enum-known-why : tie.Need-enum-known-why
+enum-known-why c = search needs
+
+enum-known-heading : tie.Need-enum-known-heading
+enum-known-heading c = search needs
+
+kind-row-requires : tie.Need-kind-row-requires
+kind-row-requires c κs = rw (c .before .heading .given .1) at (c .before .before .before .read-head .ensures .1)
+
+enum-known-why-2 : tie.Need-enum-known-why-2
+enum-known-why-2 c = search needs
+
+enum-known-row : tie.Need-enum-known-row
+enum-known-row c = search needs
+
+returns : tie.Need-returns
+unfolding definedAt andThen
+returns c = simp (← c .before .before .before .read-head .ensures .0, c .before .why .given .1)
+
+returns-2 : tie.Need-returns-2
+unfolding definedAt andThen
+returns-2 c = simp (← c .before .before .before .before .before .before .before .read-head .ensures .0, c .before .before .before .before .before .heading .given .1, ← c .before .before .before .kind-row .ensures, c .before .why2 .given .1)
+
+returns-3 : tie.Need-returns-3
+unfolding definedAt andThen
+returns-3 c = simp (← c .before .before .before .before .before .before .before .read-head .ensures .0, c .before .before .before .before .before .heading .given .1, ← c .before .before .before .kind-row .ensures, c .before .row .given .1)
+
+pub define-spec : {M : Type 1} → statement M
+define-spec =
+    tie.close
+    (tie.spec
+    read-head-requires
+    enum-known-why
+    enum-known-heading
+    kind-row-requires
+    enum-known-why-2
+    enum-known-row
+    returns
+    returns-2
+    returns-3)

@@ -1,0 +1,113 @@
+-- Arm by arm.
+use borrow.Author.Needs.{needs}
+use Rattle.build.proofs.head.body_length.Statement.{statement}
+use Rattle.build.proofs.head.body_length.Tie as tie
+
+enum-told : tie.Need-enum-told
+enum-told c = search needs
+
+wide-requires : tie.Need-wide-requires
+wide-requires c κs = search needs
+
+add-result : tie.Need-add-result
+add-result c = search needs
+
+enum-told-2 : tie.Need-enum-told-2
+enum-told-2 c = search needs
+
+wide-requires-2 : tie.Need-wide-requires-2
+wide-requires-2 c κs = search needs
+
+add-result-2 : tie.Need-add-result-2
+add-result-2 c = search needs
+
+enum-told-3 : tie.Need-enum-told-3
+enum-told-3 c = search needs
+
+enum-told-4 : tie.Need-enum-told-4
+enum-told-4 c = search needs
+
+wide-requires-3 : tie.Need-wide-requires-3
+wide-requires-3 c κs = search needs
+
+add-result-3 : tie.Need-add-result-3
+add-result-3 c = search needs
+
+enum-told-5 : tie.Need-enum-told-5
+enum-told-5 c = search needs
+
+enum-told-6 : tie.Need-enum-told-6
+enum-told-6 c = search needs
+
+enum-told-7 : tie.Need-enum-told-7
+enum-told-7 c = search needs
+
+enum-told-8 : tie.Need-enum-told-8
+enum-told-8 c = search needs
+
+enum-told-9 : tie.Need-enum-told-9
+enum-told-9 c = search needs
+
+enum-told-10 : tie.Need-enum-told-10
+enum-told-10 c = search needs
+
+returns : tie.Need-returns
+returns c = simp (c .wide .ensures, c .before .enum-told .given .1)
+
+returns-2 : tie.Need-returns-2
+returns-2 c = simp (c .wide2 .ensures, c .before .enum-told2 .given .1)
+
+returns-3 : tie.Need-returns-3
+returns-3 c = simp (c .enum-told3 .given .1)
+
+returns-4 : tie.Need-returns-4
+returns-4 c = simp (c .wide3 .ensures, c .before .enum-told4 .given .1)
+
+returns-5 : tie.Need-returns-5
+returns-5 c = simp (c .enum-told5 .given .1)
+
+returns-6 : tie.Need-returns-6
+returns-6 c = simp (c .enum-told6 .given .1)
+
+returns-7 : tie.Need-returns-7
+returns-7 c = simp (c .enum-told7 .given .1)
+
+returns-8 : tie.Need-returns-8
+returns-8 c = simp (c .enum-told8 .given .1)
+
+returns-9 : tie.Need-returns-9
+returns-9 c = simp (c .enum-told9 .given .1)
+
+returns-10 : tie.Need-returns-10
+returns-10 c = simp (c .enum-told10 .given .1)
+
+pub body-length-spec : {M : Type 1} → statement M
+body-length-spec =
+    tie.close
+    (tie.spec
+    enum-told
+    wide-requires
+    add-result
+    enum-told-2
+    wide-requires-2
+    add-result-2
+    enum-told-3
+    enum-told-4
+    wide-requires-3
+    add-result-3
+    enum-told-5
+    enum-told-6
+    enum-told-7
+    enum-told-8
+    enum-told-9
+    enum-told-10
+    returns
+    returns-2
+    returns-3
+    returns-4
+    returns-5
+    returns-6
+    returns-7
+    returns-8
+    returns-9
+    returns-10)

@@ -1,0 +1,48 @@
+-- A bad reference, or a pair.
+use Rattle.build.specs.Steps.{andThen}
+use Rattle.build.specs.Kinds.{listRow}
+use borrow.Author.Needs.{needs}
+use Rattle.build.proofs.simple.list_row.Statement.{statement}
+use Rattle.build.proofs.simple.list_row.Tie as tie
+
+mul-member-at : tie.Need-mul-member-at
+mul-member-at c = search needs
+
+shared-slice-read-member-at : tie.Need-shared-slice-read-member-at
+shared-slice-read-member-at c = search needs
+
+member-at-requires : tie.Need-member-at-requires
+member-at-requires c κs = search needs
+
+enum-told : tie.Need-enum-told
+enum-told c = search needs
+
+enum-known-element : tie.Need-enum-known-element
+enum-known-element c = search needs
+
+pair-row-requires : tie.Need-pair-row-requires
+pair-row-requires c κs = search needs
+
+returns : tie.Need-returns
+unfolding andThen listRow
+returns c = simp
+    (← c .before .before .member-at .ensures, c .enum-told .given .1)
+
+returns-2 : tie.Need-returns-2
+unfolding andThen listRow
+returns-2 c = simp
+    (c .pair-row .ensures,
+    ← c .before .before .before .before .member-at .ensures, c .before .before .element .given .1)
+
+pub list-row-spec : {M : Type 1} → statement M
+list-row-spec =
+    tie.close
+    (tie.spec
+    mul-member-at
+    shared-slice-read-member-at
+    member-at-requires
+    enum-told
+    enum-known-element
+    pair-row-requires
+    returns
+    returns-2)

@@ -1,0 +1,76 @@
+// One definition: its head, then its kind's row.
+ghost use mathlib.Core.Path.{_≡_};
+ghost use Prim.Native.Nat.{_≤_, _<_};
+ghost use lib.ListN.{length};
+ghost use Rattle.build.specs.Means.{headingMeans, rowedMeans, definedMeans};
+ghost use Rattle.build.specs.Heads.{Spans};
+ghost use Rattle.build.specs.Steps.{memberLook};
+ghost use Rattle.build.specs.Kinds.{kindRow, definedAt};
+use crate::cases::cases_row;
+use crate::cases::enum_row;
+use crate::cases::option_row;
+use crate::cases::variant_row;
+use crate::head::Head;
+use crate::head::Heading;
+use crate::head::Kind;
+use crate::head::read_head;
+use crate::members::map_row;
+use crate::members::members_row;
+use crate::row::Rowed;
+use crate::simple::fixed_row;
+use crate::simple::flags_row;
+use crate::simple::list_row;
+use table::DefinitionIndex;
+use table::Row;
+use types::DiscriminantSize;
+use types::Refusal;
+
+// The row, with the place of the next definition.
+pub(crate) enum Defined {
+    Row(Row, usize),
+    Refused(Refusal),
+}
+
+// The words that kinds 1, 4 and 9 have in a row.
+const RECORD: u32 = 1;
+
+const TUPLE: u32 = 4;
+
+const RESULT: u32 = 9;
+
+fn kind_row(words: &[u32], heading: Heading, table: &[u32], index: DefinitionIndex) -> Rowed
+    requires { ⌜ Spans (headingMeans heading) (length (now words)) ⌝ }
+    ensures { λ r. ⌜ rowedMeans r ≡ kindRow (memberLook (now (table .entry)) (index .0)) (now (words .entry)) (headingMeans heading) ⌝ }
+{
+    let kind = heading.kind;
+    let first = heading.first;
+    let count = heading.count;
+    match kind {
+        Kind::Record => members_row(words, first, count, table, index, RECORD),
+        Kind::Variant => variant_row(words, first, count, table, index),
+        Kind::List => list_row(words, first, table, index),
+        Kind::Tuple => members_row(words, first, count, table, index, TUPLE),
+        Kind::Map => map_row(words, first, table, index),
+        Kind::Flags => flags_row(count),
+        Kind::Enum => enum_row(count),
+        Kind::Option => option_row(words, first, table, index),
+        Kind::Result => cases_row(words, first, 2, table, index, RESULT, DiscriminantSize::Size1),
+        Kind::FixedLengthList => fixed_row(words, first, table, index),
+    }
+}
+
+pub(crate) fn define(words: &[u32], at: usize, table: &[u32], index: DefinitionIndex) -> Defined
+    requires { ⌜ (at < length (now words)) × (length (now words) ≤ 16384) ⌝ }
+    ensures { λ r. ⌜ definedMeans r ≡ definedAt (memberLook (now (table .entry)) (index .0)) (now (words .entry)) at ⌝ }
+{
+    match read_head(words, at) {
+        Head::Refused(why) => Defined::Refused(why),
+        Head::Is(heading) => {
+            let next = heading.next;
+            match kind_row(words, heading, table, index) {
+                Rowed::Refused(why) => Defined::Refused(why),
+                Rowed::Row(row) => Defined::Row(row, next),
+            }
+        }
+    }
+}

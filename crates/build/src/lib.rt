@@ -1,0 +1,52 @@
+// From a description's words to the rows of a table, a definition after another.
+mod cases;
+mod define;
+mod head;
+mod members;
+mod reference;
+mod row;
+mod simple;
+
+ghost use mathlib.Core.Path.{_≡_};
+ghost use Rattle.canon.specs.Description.{buildAnswer, tableAfter};
+ghost use Rattle.build.specs.Means.{builtMeans};
+use crate::define::Defined;
+use crate::define::define;
+use table::DefinitionIndex;
+use table::capacity;
+use table::put_row;
+use types::Refusal;
+
+// A description's most words.
+const MAX_WORDS: usize = 16384;
+
+pub enum Built {
+    Rows(u32),
+    Refused(Refusal, DefinitionIndex),
+}
+
+// Writes a row for each definition, up to the first that is refused.
+pub fn build(words: &[u32], table: &mut [u32]) -> Built
+    ensures { λ r. ⌜ (builtMeans r ≡ buildAnswer (now (words .entry)) (now (table .entry))) × (now (table .exit) ≡ tableAfter (now (words .entry)) (now (table .entry))) ⌝ }
+{
+    if MAX_WORDS < words.len() {
+        return Built::Refused(Refusal::TooLong, DefinitionIndex(0));
+    }
+    let room = capacity(table.len()) as u32;
+    let mut rows: u32 = 0;
+    let mut at: usize = 0;
+    while at < words.len() {
+        if room <= rows {
+            return Built::Refused(Refusal::NoRoom, DefinitionIndex(rows));
+        }
+        match define(words, at, table, DefinitionIndex(rows)) {
+            Defined::Refused(why) => return Built::Refused(why, DefinitionIndex(rows)),
+            Defined::Row(row, next) => {
+                put_row(table, DefinitionIndex(rows), row);
+                at = next;
+            }
+        }
+        rows += 1;
+    }
+    Built::Rows(rows)
+}

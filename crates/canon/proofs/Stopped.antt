@@ -1,0 +1,179 @@
+-- Where a build stops: at the first definition that is refused, among those that it comes to. With that, demand 3 of a build's answer.
+use mathlib.Core.Path.{_≡_, refl, ap, _∙_}
+use mathlib.Core.Logic.{_⊎_, _↔_}
+use mathlib.Core.Bool.{Bool, true, false, cond}
+use mathlib.Core.List.{List, [], _∷_, _++_}
+use mathlib.Core.Option.{Option, none, some}
+use Prim.Native.Nat.{ℕ, zero, suc, _-_, _≤_, _<_}
+use native.Mathlib.Nat.{le-refl}
+use native.Mathlib.Decide.{decLe}
+use native.Mathlib.Omega.{arith}
+use lib.Dec.{ltb}
+use lib.ListN.{length, getD, take, drop, length-append}
+use borrow.Author.Tests.{ltb-false, lt-ltb, le-ltb}
+use Rattle.canon.specs.Answer.{Leaf, is, no as refuses, refused, lift, tooLong, truncated, tooLarge, noRoom}
+use Rattle.canon.specs.Types.{Ty, Members}
+use Rattle.canon.specs.Layout.{mem32, mem64, members}
+use Rattle.canon.specs.Table.{capacity}
+use Rattle.canon.specs.Placement.{NoPlacement}
+use Rattle.canon.specs.Description.{
+  Kind,
+  kindOf,
+  bodyLength,
+  membersOf,
+  typeOf,
+  Defined,
+  fitted,
+  bodied,
+  define,
+  Built,
+  follow,
+  buildFrom,
+  mostWords,
+  build,
+  answered,
+  built,
+  buildAnswer,
+}
+use Rattle.canon.proofs.Tests.{impossible}
+use Rattle.canon.proofs.Refusals.{Product, aRecord, aTuple, Passes, refused-six}
+use Rattle.canon.proofs.Built.{build-keeps, Sound, keeps-step}
+
+-- one definition more
+pub sound-more : (room : ℕ) (ts : List Ty) (w : ℕ) (ws : List ℕ) (d : Defined) → define ts w ws ≡ is d → Sound room ts → length ts < room → Sound room (ts ++ d .type ∷ [])
+sound-more room ts w ws d e s h =
+    let k = keeps-step room (room - suc (length ts)) ts w ws d e (s .definitions, omega arith) in
+    record { definitions = k .0; fits = omega (arith, k .1) }
+
+-- a build of the words ws, with room for so many rows, comes to the words vs after the types ts, with room for `left` rows more
+pub data Comes (room : ℕ) (ws : List ℕ) : ℕ → List Ty → List ℕ → Type 0 where
+  begins : Comes room ws room [] ws
+  passes :
+      {left : ℕ} {ts : List Ty} {w : ℕ} {vs : List ℕ} {d : Defined} →
+      Comes room ws (suc left) ts (w ∷ vs) →
+      define ts w vs ≡ is d →
+      Comes room ws left (ts ++ d .type ∷ []) (drop (d .length) vs)
+
+comes-build : {room : ℕ} {ws : List ℕ} {left : ℕ} {ts : List Ty} {vs : List ℕ} → Comes room ws left ts vs → buildFrom left ts vs ≡ buildFrom room [] ws
+unfolding buildFrom
+comes-build begins = refl
+comes-build (passes c e) = rw e at (comes-build c)
+
+-- the types only grow
+grows : (left : ℕ) (ts : List Ty) (vs : List ℕ) → length ts ≤ length (buildFrom left ts vs .types)
+grows left ts vs =
+    build-keeps (λ room us. length ts ≤ length us)
+    (λ room us w ws d e h. omega (arith, length-append us (d .type ∷ []))) left ts vs (le-refl (length ts)) .1
+
+short-build : (ws t : List ℕ) → length ws ≤ mostWords → built ws t ≡ buildFrom (capacity (length t)) [] ws
+unfolding build
+short-build ws t h = rw (le-ltb mostWords (length ws) h)
+
+-- at a definition that it comes to, a build is refused exactly as the definition is
+module _ (ws t : List ℕ) {left : ℕ} {ts : List Ty} {w : ℕ} {vs : List ℕ} (c : Comes (capacity (length t)) ws (suc left) ts (w ∷ vs)) where
+  pub at-definition : (x : ℕ) → length ws ≤ mostWords → (buildAnswer ws t ≡ refused x (length ts)) ↔ (define ts w vs ≡ refuses x)
+  unfolding buildAnswer buildFrom
+  at-definition x short = rw (short-build ws t short, ← (comes-build c)) (go (define ts w vs))
+    where
+      after : Leaf Defined → Built
+      after l = follow ts vs l (λ ts′ ws′. buildFrom left ts′ ws′)
+
+      never : (n : ℕ) (o : Option ℕ) → length ts < n → answered n o ≡ refused x (length ts) → ⊥
+      never n none h e = impossible (cc)
+      never n (some y) h e = let p : n ≡ length ts = cc in omega arith
+
+      go : (l : Leaf Defined) → (answered (length (after l .types)) (after l .stopped) ≡ refused x (length ts)) ↔ (l ≡ refuses x)
+      go (is d) =
+          let l : length ts < length (after (is d) .types) = omega (arith, grows left (ts ++ d .type ∷ []) (drop (d .length) vs), length-append ts (d .type ∷ [])) in
+          (λ e. absurd (never (length (after (is d) .types)) (after (is d) .stopped) l e), λ e. impossible (cc))
+      go (refuses y) = (λ e. let p : y ≡ x = cc in ap refuses p, λ e. let p : y ≡ x = cc in ap (λ (z : ℕ). refused z (length ts)) p)
+
+-- a definition that a build comes to and that is refused with the number x
+pub record StopsAt (room : ℕ) (ws : List ℕ) (x : ℕ) : Type 0 where
+  pub left : ℕ
+  pub types : List Ty
+  pub word : ℕ
+  pub rest : List ℕ
+  pub comes : Comes room ws (suc left) types (word ∷ rest)
+  pub refusal : define types word rest ≡ refuses x
+
+-- a build that stops for another reason than room stops at a definition
+finds : {room : ℕ} {ws : List ℕ} (x left : ℕ) (ts : List Ty) (vs : List ℕ) → (x ≡ noRoom → ⊥) → Comes room ws left ts vs → buildFrom left ts vs .stopped ≡ some x → StopsAt room ws x
+unfolding buildFrom
+finds x zero ts [] n c e = impossible (cc)
+finds x zero ts (w ∷ vs) n c e = let p : x ≡ noRoom = cc in absurd (n p)
+finds x (suc left) ts [] n c e = impossible (cc)
+finds {room} {ws} x (suc left) ts (w ∷ vs) n c e = go (define ts w vs) refl e (λ us rest. finds x left us rest n)
+  where
+    go : (l : Leaf Defined) → define ts w vs ≡ l → follow ts vs l (λ ts′ ws′. buildFrom left ts′ ws′) .stopped ≡ some x →
+        ((us : List Ty) (rest : List ℕ) → Comes room ws left us rest → buildFrom left us rest .stopped ≡ some x → StopsAt room ws x) →
+        StopsAt room ws x
+    go (is d) p e more = more (ts ++ d .type ∷ []) (drop (d .length) vs) (passes c p) e
+    go (refuses y) p e more =
+        let q : y ≡ x = cc in
+        record { left = left; types = ts; word = w; rest = vs; comes = c; refusal = p ∙ ap refuses q }
+
+stopped-some : (n i x : ℕ) (o : Option ℕ) → answered n o ≡ refused x i → o ≡ some x
+stopped-some n i x none e = impossible (cc)
+stopped-some n i x (some y) e = let q : y ≡ x = cc in ap some q
+
+-- so a refusal with the index i, but for length and room, is that of the definition after i types
+pub stopped-at :
+    (ws t : List ℕ) (x i : ℕ) → (x ≡ tooLong → ⊥) → (x ≡ noRoom → ⊥) →
+    (buildAnswer ws t ≡ refused x i)
+    ↔ ((length ws ≤ mostWords) × (s : StopsAt (capacity (length t)) ws x) × (length (s .types) ≡ i))
+unfolding buildAnswer build
+stopped-at ws t x i long room = (
+  λ e. elim (decLe (length ws) mostWords) [
+    | yes h ↦
+        let s = finds x (capacity (length t)) [] ws room begins (stopped-some _ i x _ (rw (short-build ws t h) at e)) in
+        let p : buildAnswer ws t ≡ refused x (length (s .types)) = at-definition ws t (s .comes) x h .1 (s .refusal) in
+        (h, s, cc)
+    | no h ↦ let f = rw (lt-ltb mostWords (length ws) (omega arith)) at e in let p : x ≡ tooLong = cc in absurd (long p)
+  ],
+  λ s. rw (← (s .2)) (at-definition ws t (s .1 .comes) x (s .0) .1 (s .1 .refusal)),
+)
+
+-- Demand 3
+
+pub stopped-six :
+    (ws t : List ℕ) (i : ℕ) →
+    (buildAnswer ws t ≡ refused tooLarge i)
+    ↔ ((length ws ≤ mostWords) × (s : StopsAt (capacity (length t)) ws tooLarge) × (length (s .types) ≡ i))
+stopped-six ws t i = stopped-at ws t tooLarge i (λ e. omega arith) (λ e. omega arith)
+
+-- a record or tuple that is refused as too large passed every check before
+passed :
+    {k : Kind} {type : Members → Ty} → Product k type → (ts : List Ty) (w : ℕ) (vs : List ℕ) → kindOf w ≡ some k →
+    (b : Bool) (o : Option Members) →
+    ltb (length vs) (bodyLength k (getD vs 0 0)) ≡ b →
+    membersOf ts (drop 1 (take (bodyLength k (getD vs 0 0)) vs)) ≡ o →
+    cond b (refuses truncated) (fitted (bodyLength k (getD vs 0 0)) (lift type o)) ≡ refuses tooLarge →
+    (us : Members) × Passes ts w vs us
+unfolding fitted
+passed p ts w vs known true o h n e = absurd (impossible (cc))
+passed p ts w vs known false none h n e = absurd (impossible (cc))
+passed {k} {type} p ts w vs known false (some us) h n e =
+    (us, record { kind = k; type = type; product = p; known = known; whole = ltb-false (length vs) (bodyLength k (getD vs 0 0)) h; named = n })
+
+six-passes : {k : Kind} {type : Members → Ty} → Product k type → (ts : List Ty) (w : ℕ) (vs : List ℕ) → kindOf w ≡ some k → define ts w vs ≡ refuses tooLarge → (us : Members) × Passes ts w vs us
+unfolding bodied typeOf
+six-passes aRecord ts w vs known e = passed aRecord ts w vs known _ _ refl refl (rw known at e)
+six-passes aTuple ts w vs known e = passed aTuple ts w vs known _ _ refl refl (rw known at e)
+
+-- 6 at a record or tuple exactly when it passes the earlier checks and one of the two memories admits no placement
+pub build-six :
+    (ws t : List ℕ) {left : ℕ} {ts : List Ty} {w : ℕ} {vs : List ℕ} {k : Kind} {type : Members → Ty} →
+    Comes (capacity (length t)) ws (suc left) ts (w ∷ vs) →
+    Product k type →
+    kindOf w ≡ some k →
+    length ws ≤ mostWords →
+    (buildAnswer ws t ≡ refused tooLarge (length ts))
+    ↔ ((us : Members) × Passes ts w vs us × (NoPlacement (members mem32 us) ⊎ NoPlacement (members mem64 us)))
+build-six ws t {ts = ts} {w} {vs} c p known short = (
+  λ e.
+      let d = at-definition ws t c tooLarge short .0 e in
+      let q = six-passes p ts w vs known d in
+      (q .0, q .1, refused-six (q .1) .0 d),
+  λ q. at-definition ws t c tooLarge short .1 (refused-six (q .1) .1 (q .2)),
+)

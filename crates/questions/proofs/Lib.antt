@@ -1,0 +1,6 @@
+-- Laws that several proofs of this crate cite.
+pub mod References
+pub mod WellFormed
+pub mod Members
+pub mod Unique
+pub mod Promises

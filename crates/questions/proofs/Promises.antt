@@ -1,0 +1,133 @@
+-- What the promises say of the standard: a placement answered is the tightest, one refused as too large exists in no form, and on a table that
+-- a build wrote each question answers for the types themselves.
+use mathlib.Core.Path.{_≡_, refl, sym, ap, _∙_}
+use mathlib.Core.Logic.{_↔_}
+use mathlib.Core.List.{List, _++_, map}
+use mathlib.Core.Option.{some}
+use Prim.Native.Nat.{ℕ, _≤_}
+use lib.ListN.{length, take, drop}
+use borrow.Author.Tests.{le-ltb}
+use denote.Ref.{RefT, now, at-last}
+use contract.Lifetimes.{Lfts}
+use Rattle.canon.specs.Answer.{Answer, ok, refused, then, unless, tooLarge}
+use Rattle.canon.specs.Types.{Ty}
+use Rattle.canon.specs.Layout as canon
+use Rattle.canon.specs.Layout.{mem32, mem64, layout}
+use Rattle.canon.specs.Placement.{NoPlacement}
+use Rattle.canon.specs.Row.{Info, infoOf}
+use Rattle.canon.specs.Description.{reference, built, tableAfter}
+use Rattle.canon.specs.Question.{ask, typeAnswer, sizeAlignAnswer, layoutsIn, Placing, placed, placing, placementAnswer, written, offsetsAfter}
+use Rattle.canon.proofs.Tests.{impossible}
+use Rattle.canon.proofs.Refusals.{Tightest}
+use Rattle.canon.proofs.Asked.{
+  Reads,
+  placing-six,
+  placing-tightest,
+  Names,
+  type-built,
+  ask-built,
+  layouts-typed,
+  flatTypes,
+  flats-typed,
+  borrowTypes,
+  borrows-typed,
+}
+use Rattle.types.specs.Means.{layoutMeans}
+use Rattle.types.specs.declared.refusal.Refusal.the-variants.{TooLarge}
+use Rattle.types.specs.declared.extent.Layout.{Layout}
+use Rattle.flat_types.specs.Lists.{memoryOf, packed}
+use Rattle.flat_types.specs.declared.memory.Memory.{Memory}
+use Rattle.table.specs.declared.info.MemberPosition.{MemberPosition}
+use Rattle.questions.specs.Means.{typeMeans, answerMeans, gatheredMeans}
+use Rattle.questions.specs.Gathers.{together, gatherAnswer}
+use Rattle.questions.specs.Steps.{layoutPart}
+use Rattle.questions.specs.declared.answer.TypeAnswer.{TypeAnswer}
+use Rattle.questions.specs.declared.answer.LayoutAnswer.{LayoutAnswer}
+use Rattle.questions.specs.declared.answer.LayoutAnswer.the-variants as answer
+use Rattle.questions.specs.declared.list.Gathered.{Gathered}
+use Rattle.types.proofs.Told.{told}
+use Rattle.questions.proofs.Unique.{layoutOf, layout-back}
+use Rattle.questions.proofs.ask.canonical_abi.Reads as canonical-abi
+use Rattle.questions.proofs.ask.size_align.Reads as size-align
+use Rattle.questions.proofs.list.gather.Reads as gather
+use Rattle.questions.proofs.placing.placement.Reads as placement
+
+-- Demand 3, of a placement question that passes every earlier check and reads these infos
+
+answered :
+    (a : Answer Placing) (f : canon.Layout) (out after : List ℕ) → ok f ≡ layoutPart a → after ≡ written a out →
+    (os : List ℕ) × (a ≡ ok (record { layout = f; offsets = os })) × (after ≡ os ++ drop (length os) out)
+unfolding then written
+answered (ok p) f out after e w = let g : f ≡ p .layout = cc in (p .offsets, rw g, w)
+answered (refused x p) f out after e w = impossible (cc)
+
+refusal-passes : (a : Answer Placing) (x p : ℕ) → refused x p ≡ layoutPart a → a ≡ refused x p
+unfolding then
+refusal-passes (ok q) x p e = impossible (cc)
+refusal-passes (refused y q) x p e = let f : x ≡ y = cc in let g : p ≡ q = cc in rw (f, g)
+
+module _
+    (κs : Lfts 3) (m : Memory) (t : RefT (List ℕ)) (n : ℕ) (ws o : RefT (List ℕ)) (l : List ℕ) (is′ : List Info)
+    (reads : Reads (now t) n (now ws) (length (now o)) is′)
+  where
+    pub placement-tightest :
+        (f : Layout) → placement.Post κs (m, (t, (n, (ws, (o, tt))))) (answer.Layout f) (m, (t, (n, (ws, (at-last o l, tt))))) →
+        (os : List ℕ) × (l ≡ os ++ drop (length os) (now o)) × Tightest (layoutsIn (memoryOf m) is′) (record { layout = layoutMeans f; offsets = os })
+    unfolding placementAnswer offsetsAfter
+    placement-tightest f h =
+        let r = answered (placing (memoryOf m) (now t) n (now ws) (length (now o))) (layoutMeans f) (now o) l (h .0) (h .1) in
+        (r .0, r .2, placing-tightest (memoryOf m) (record { layout = layoutMeans f; offsets = r .0 }) reads (r .1))
+
+    pub placement-six :
+        (r : LayoutAnswer) → placement.Post κs (m, (t, (n, (ws, (o, tt))))) r (m, (t, (n, (ws, (at-last o l, tt))))) →
+        ((q : MemberPosition) × (r ≡ answer.Refused TooLarge q)) ↔ NoPlacement (layoutsIn (memoryOf m) is′)
+    unfolding placementAnswer then
+    placement-six r h =
+        let six = placing-six (memoryOf m) reads in (
+          λ g. six .0 (g .0 .0, refusal-passes (placing (memoryOf m) (now t) n (now ws) (length (now o))) tooLarge (g .0 .0) (sym (ap answerMeans (g .1)) ∙ h .0)),
+          λ none. let g = six .1 none in
+              (record { 0 = g .0 }, told answerMeans layoutOf layout-back r (answer.Refused TooLarge (record { 0 = g .0 })) (h .0 ∙ rw (g .1))),
+        )
+
+-- Tables that a build wrote, of a description ws into a buffer t₀
+
+module _ (κs : Lfts 1) (t : RefT (List ℕ)) (n w : ℕ) (ws t₀ : List ℕ) (u : Ty)
+    (table : now t ≡ tableAfter ws t₀) (rows : n ≤ length (built ws t₀ .types)) (named : reference (take n (built ws t₀ .types)) w ≡ some u)
+  where
+    pub type-of : (r : TypeAnswer) → canonical-abi.Post κs (t, (n, (w, tt))) r (t, (n, (w, tt))) → typeMeans r ≡ ok (infoOf u)
+    type-of r h = h ∙ ap (λ (x : List ℕ). typeAnswer x n w) table ∙ type-built ws t₀ n w u rows named
+
+    pub size-of : (m : Memory) (r : LayoutAnswer) → size-align.Post κs (m, (t, (n, (w, tt)))) r (m, (t, (n, (w, tt)))) → answerMeans r ≡ ok (layout (memoryOf m) u)
+    unfolding sizeAlignAnswer then
+    size-of m r h = h ∙ ap (λ (x : List ℕ). sizeAlignAnswer (memoryOf m) x n w) table ∙ rw (type-built ws t₀ n w u rows named) (go (memoryOf m))
+      where
+        go : (m : canon.Memory) → ok (canon.within m (infoOf u .abi .layouts)) ≡ ok (layout m u)
+        go mem32 = refl
+        go mem64 = refl
+
+module _ (m : Memory) (t : RefT (List ℕ)) (n : ℕ) (refs : RefT (List ℕ)) (ws t₀ : List ℕ) (us : List Ty)
+    (table : now t ≡ tableAfter ws t₀) (names : Names ws t₀ n (now refs) us)
+  where
+    pub gathered-of :
+        (κs : Lfts 2) (r : Gathered) → gather.Post κs (m, (t, (n, (refs, (0, tt))))) r (m, (t, (n, (refs, (0, tt))))) →
+        gatheredMeans r ≡ ok (record { flat = packed (flatTypes (memoryOf m) us); borrow = borrowTypes us })
+    unfolding gatherAnswer ask unless
+    gathered-of κs r h =
+        h
+        ∙ ap (λ (x : List ℕ). gatherAnswer (memoryOf m) x n 0 (now refs)) table
+        ∙ ask-built (λ is′. ok (together (memoryOf m) is′)) names
+        ∙ rw (flats-typed (memoryOf m) us, borrows-typed us)
+
+    placing-of : (room : ℕ) → length (now refs) ≤ room → placing (memoryOf m) (now t) n (now refs) room ≡ placed (map (layout (memoryOf m)) us)
+    unfolding placing
+    placing-of room fits =
+        rw (table, le-ltb room (length (now refs)) fits)
+        (ask-built (λ is′. placed (layoutsIn (memoryOf m) is′)) names ∙ ap placed (layouts-typed (memoryOf m) us))
+
+    pub placed-of :
+        (κs : Lfts 3) (o : RefT (List ℕ)) (r : LayoutAnswer) (l : List ℕ) → length (now refs) ≤ length (now o) →
+        placement.Post κs (m, (t, (n, (refs, (o, tt))))) r (m, (t, (n, (refs, (at-last o l, tt))))) →
+        (answerMeans r ≡ layoutPart (placed (map (layout (memoryOf m)) us))) × (l ≡ written (placed (map (layout (memoryOf m)) us)) (now o))
+    unfolding placementAnswer offsetsAfter
+    placed-of κs o r l fits h =
+        (h .0 ∙ rw (placing-of (length (now o)) fits), h .1 ∙ rw (placing-of (length (now o)) fits))

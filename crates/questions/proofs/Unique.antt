@@ -1,0 +1,87 @@
+-- No second outcome meets a promise, answer and memory: what an answer means tells the answer.
+use mathlib.Core.Path.{_≡_, refl, sym, ap, _∙_}
+use mathlib.Core.Bool.{Bool}
+use mathlib.Core.List.{List}
+use Prim.Native.Nat.{ℕ}
+use denote.Ref.{RefT, at-last}
+use contract.Lifetimes.{Lfts}
+use Rattle.canon.specs.Answer.{Answer, ok, refused}
+use Rattle.canon.specs.Layout as canon
+use Rattle.canon.specs.Row as row
+use Rattle.types.specs.declared.refusal.Refusal.{Refusal}
+use Rattle.types.specs.declared.extent.Layout.{Layout}
+use Rattle.flat_types.specs.declared.memory.Memory.{Memory}
+use Rattle.types.proofs.Told.{told, refusalOf, refusal-back}
+use Rattle.table.proofs.Unique.{back, back-again}
+use Rattle.table.specs.declared.info.Info.{Info}
+use Rattle.questions.specs.Means.{typeMeans, answerMeans, gatheredMeans}
+use Rattle.questions.specs.Gathers.{Together}
+use Rattle.questions.specs.declared.answer.TypeAnswer.{TypeAnswer}
+use Rattle.questions.specs.declared.answer.TypeAnswer.the-variants as type
+use Rattle.questions.specs.declared.answer.LayoutAnswer.{LayoutAnswer}
+use Rattle.questions.specs.declared.answer.LayoutAnswer.the-variants as layout
+use Rattle.questions.specs.declared.list.Gathered.{Gathered}
+use Rattle.questions.specs.declared.list.Gathered.the-variants as gathered
+use Rattle.questions.proofs.read.too_many.Reads as too-many
+use Rattle.questions.proofs.read.no_table.Reads as no-table
+use Rattle.questions.proofs.ask.canonical_abi.Reads as canonical-abi
+use Rattle.questions.proofs.ask.size_align.Reads as size-align
+use Rattle.questions.proofs.list.gather.Reads as gather
+use Rattle.questions.proofs.placing.placement.Reads as placement
+
+typeOf : Answer row.Info → TypeAnswer
+typeOf (ok i) = type.Info (back i)
+typeOf (refused x p) = type.Refused (refusalOf x) (record { 0 = p })
+
+type-back : (r : TypeAnswer) → typeOf (typeMeans r) ≡ r
+unfolding typeOf
+type-back (type.Info i) = ap type.Info (back-again i)
+type-back (type.Refused x p) = ap (λ (y : Refusal). type.Refused y p) (refusal-back x)
+
+pub layoutOf : Answer canon.Layout → LayoutAnswer
+layoutOf (ok f) = layout.Layout (record { size = f .size; align = f .align })
+layoutOf (refused x p) = layout.Refused (refusalOf x) (record { 0 = p })
+
+pub layout-back : (r : LayoutAnswer) → layoutOf (answerMeans r) ≡ r
+unfolding layoutOf
+layout-back (layout.Layout f) = refl
+layout-back (layout.Refused x p) = ap (λ (y : Refusal). layout.Refused y p) (refusal-back x)
+
+gatheredOf : Answer Together → Gathered
+gatheredOf (ok g) = gathered.All (record { flat = record { count = g .flat .number; types = g .flat .types }; borrow = g .borrow })
+gatheredOf (refused x p) = gathered.Refused (refusalOf x) (record { 0 = p })
+
+gathered-back : (r : Gathered) → gatheredOf (gatheredMeans r) ≡ r
+unfolding gatheredOf
+gathered-back (gathered.All g) = refl
+gathered-back (gathered.Refused x p) = ap (λ (y : Refusal). gathered.Refused y p) (refusal-back x)
+
+pub too-many-one : (κs : Lfts 1) (ws : RefT (List ℕ)) (r q : Bool) → too-many.Post κs (ws, tt) r (ws, tt) → too-many.Post κs (ws, tt) q (ws, tt) → r ≡ q
+too-many-one κs ws r q g h = g ∙ sym h
+
+pub no-table-one :
+    (κs : Lfts 1) (t : RefT (List ℕ)) (n : ℕ) (r q : Bool) →
+    no-table.Post κs (t, (n, tt)) r (t, (n, tt)) → no-table.Post κs (t, (n, tt)) q (t, (n, tt)) → r ≡ q
+no-table-one κs t n r q g h = g ∙ sym h
+
+pub canonical-abi-one :
+    (κs : Lfts 1) (t : RefT (List ℕ)) (n w : ℕ) (r q : TypeAnswer) →
+    canonical-abi.Post κs (t, (n, (w, tt))) r (t, (n, (w, tt))) → canonical-abi.Post κs (t, (n, (w, tt))) q (t, (n, (w, tt))) → r ≡ q
+canonical-abi-one κs t n w r q g h = told typeMeans typeOf type-back r q (g ∙ sym h)
+
+pub size-align-one :
+    (κs : Lfts 1) (m : Memory) (t : RefT (List ℕ)) (n w : ℕ) (r q : LayoutAnswer) →
+    size-align.Post κs (m, (t, (n, (w, tt)))) r (m, (t, (n, (w, tt)))) → size-align.Post κs (m, (t, (n, (w, tt)))) q (m, (t, (n, (w, tt)))) → r ≡ q
+size-align-one κs m t n w r q g h = told answerMeans layoutOf layout-back r q (g ∙ sym h)
+
+pub gather-one :
+    (κs : Lfts 2) (m : Memory) (t : RefT (List ℕ)) (n : ℕ) (ws : RefT (List ℕ)) (p : ℕ) (r q : Gathered) →
+    gather.Post κs (m, (t, (n, (ws, (p, tt))))) r (m, (t, (n, (ws, (p, tt))))) →
+    gather.Post κs (m, (t, (n, (ws, (p, tt))))) q (m, (t, (n, (ws, (p, tt))))) → r ≡ q
+gather-one κs m t n ws p r q g h = told gatheredMeans gatheredOf gathered-back r q (g ∙ sym h)
+
+pub placement-one :
+    (κs : Lfts 3) (m : Memory) (t : RefT (List ℕ)) (n : ℕ) (ws o : RefT (List ℕ)) (r q : LayoutAnswer) (l k : List ℕ) →
+    placement.Post κs (m, (t, (n, (ws, (o, tt))))) r (m, (t, (n, (ws, (at-last o l, tt))))) →
+    placement.Post κs (m, (t, (n, (ws, (o, tt))))) q (m, (t, (n, (ws, (at-last o k, tt))))) → (r ≡ q) × (l ≡ k)
+placement-one κs m t n ws o r q l k g h = (told answerMeans layoutOf layout-back r q (g .0 ∙ sym (h .0)), g .1 ∙ sym (h .1))

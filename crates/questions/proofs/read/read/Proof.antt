@@ -1,0 +1,50 @@
+-- A definition that the table has stands within it (`row-is`).
+use borrow.Author.Tests.{lt-ltb, le-ltb, le-leb, lt-leb}
+use Rattle.canon.specs.Question.{read}
+use Rattle.questions.proofs.WellFormed.{row-is}
+use borrow.Author.Needs.{needs}
+use Rattle.questions.proofs.read.read.Statement.{statement}
+use Rattle.questions.proofs.read.read.Tie as tie
+
+plain-info-requires : tie.Need-plain-info-requires
+plain-info-requires c κs = search needs
+
+enum-known-info : tie.Need-enum-known-info
+enum-known-info c = search needs
+
+enum-told : tie.Need-enum-told
+enum-told c = search needs
+
+returns : tie.Need-returns
+unfolding read
+returns c = simp (lt-leb _ _ (c .before .before .before .before .if1 .taken), ← c .before .before .before .plain-info .ensures, c .before .info .given .1)
+
+returns-2 : tie.Need-returns-2
+unfolding read
+returns-2 c = simp (lt-leb _ _ (c .before .before .before .if1 .taken), ← c .before .before .plain-info .ensures, c .enum-told .given .1)
+
+read-row-requires : tie.Need-read-row-requires
+read-row-requires c κs = search needs
+
+returns-3 : tie.Need-returns-3
+unfolding read
+returns-3 c =
+    simp (le-leb _ _ (c .before .before .if1 .left), lt-ltb _ _ (c .before .if2 .taken), ← row-is _ _ _ (c .before .before .before .before .pre) (c .before .if2 .taken))
+    (c .read-row .ensures)
+
+returns-4 : tie.Need-returns-4
+unfolding read
+returns-4 c = simp (le-leb _ _ (c .before .if1 .left), le-ltb _ _ (c .if2 .left))
+
+pub read-spec : {M : Type 1} → statement M
+read-spec =
+    tie.close
+    (tie.spec
+    plain-info-requires
+    enum-known-info
+    enum-told
+    returns
+    returns-2
+    read-row-requires
+    returns-3
+    returns-4)

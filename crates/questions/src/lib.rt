@@ -1,0 +1,17 @@
+// The questions put to a table: what a reference stands for, and what a list of references does together.
+mod answer;
+mod ask;
+mod list;
+mod placing;
+mod read;
+
+pub use answer::LayoutAnswer;
+pub use answer::TypeAnswer;
+pub use ask::canonical_abi;
+pub use ask::size_align;
+pub use list::Gathered;
+pub use list::Gathering;
+pub use list::gather;
+pub use placing::placement;
+pub use read::no_table;
+pub use read::too_many;

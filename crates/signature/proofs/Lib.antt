@@ -1,0 +1,5 @@
+-- Laws that several proofs of this crate cite.
+pub mod Asking
+pub mod Maxima
+pub mod Unique
+pub mod Promises

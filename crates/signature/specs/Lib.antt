@@ -1,0 +1,3 @@
+-- What the promises of this crate cite beside canon.
+pub mod Packs
+pub mod Means

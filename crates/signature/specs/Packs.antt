@@ -1,0 +1,56 @@
+-- canon's answers with each list as a count and packed types. 01: "`Vec<ValType>` becomes a count and packed types, at most 17".
+use mathlib.Core.Bool.{Bool, true, false, cond, not}
+use mathlib.Core.List.{List, [], _∷_}
+use mathlib.Core.Option.{Option, none, some}
+use Prim.Native.Nat.{ℕ}
+use lib.Dec.{ltb}
+use lib.ListN.{length}
+use Rattle.canon.specs.Answer.{Answer, ok, then}
+use Rattle.canon.specs.Layout.{Memory}
+use Rattle.canon.specs.Flat.{Core}
+use Rattle.canon.specs.Pack.{Packed, pack}
+use Rattle.canon.specs.Row.{Info}
+use Rattle.canon.specs.Question.{askTwo}
+use Rattle.canon.specs.Signature.{Flattened, listed, inMemory, flatAll, Signature}
+use Rattle.flat_types.specs.Lists.{packed}
+
+abbrev pub packedList : List Core → Packed
+packedList l = record { number = length l; types = pack l }
+
+-- none is "memory"
+abbrev pub packedFlat : Flattened → Option Packed
+packedFlat (listed l) = some (packedList l)
+packedFlat inMemory = none
+
+abbrev pub packedFlattened : Answer Flattened → Answer (Option Packed)
+packedFlattened a = then a (λ f. ok (packedFlat f))
+
+pub record PackedSignature : Type 0 where
+  pub params : Packed
+  pub results : Packed
+
+abbrev pub packedSignature : Signature → PackedSignature
+packedSignature s = record { params = packedList (s .params); results = packedList (s .results) }
+
+abbrev pub packedAnswer : Answer Signature → Answer PackedSignature
+packedAnswer a = then a (λ s. ok (packedSignature s))
+
+-- The inner functions' words
+
+-- two lists in their memories, none where one has more than 16 types
+pub record Lists : Type 0 where
+  pub first : Packed
+  pub second : Packed
+
+abbrev pub lists : Memory → List Info → Memory → List Info → Lists
+lists a is′ b js = record { first = packed (flatAll a is′); second = packed (flatAll b js) }
+
+abbrev pub bothLists : List ℕ → ℕ → Memory → List ℕ → Memory → List ℕ → Answer Lists
+bothLists t n a vs b ws = askTwo t n vs ws (λ is′ js. ok (lists a is′ b js))
+
+abbrev pub isEmpty : List Info → Bool
+isEmpty [] = true
+isEmpty (i ∷ is′) = false
+
+unfoldable pub behind : Bool → Bool → ℕ → Bool
+behind async empty count = cond async (not empty) (ltb 1 count)

@@ -1,0 +1,120 @@
+// The questions on one list.
+ghost use mathlib.Core.Path.{_≡_};
+ghost use mathlib.Core.List.{List};
+ghost use mathlib.Core.Option.{Option};
+ghost use Prim.Native.Nat.{_≤_};
+ghost use Rattle.canon.specs.Answer.{ok};
+ghost use Rattle.canon.specs.Flat.{Core};
+ghost use Rattle.canon.specs.Question.{borrowAnswer};
+ghost use Rattle.canon.specs.Signature.{atMost, flattenAnswer, loweringMax, liftingMax, loweringAnswer, liftingAnswer};
+ghost use Rattle.flat_types.specs.Lists.{memoryOf, packed, words};
+ghost use Rattle.signature.specs.Means.{sideMeans, flattenedMeans, borrowMeans};
+ghost use Rattle.signature.specs.Packs.{packedFlat, packedFlattened};
+use flat_types::FlatList;
+use flat_types::MAX_FLAT_TYPES;
+use flat_types::Memory;
+use questions::Gathered;
+use questions::gather;
+use questions::no_table;
+use questions::too_many;
+use table::MemberPosition;
+use types::Refusal;
+
+// The source's maxima.
+pub const MAX_FLAT_PARAMS: u32 = 16;
+
+pub const MAX_FLAT_ASYNC_PARAMS: u32 = 4;
+
+const MAX_FLAT_RESULTS: u32 = 1;
+
+// How one side of a call is compiled.
+pub struct Side {
+    pub memory: Memory,
+    pub async_: bool,
+}
+
+pub enum Flattened {
+    List(FlatList),
+    Memory,
+    Refused(Refusal, MemberPosition),
+}
+
+pub enum BorrowAnswer {
+    Reached(bool),
+    Refused(Refusal, MemberPosition),
+}
+
+// A list of at most so many types; a longer one lies in memory.
+fn at_most(max: u32, flat: FlatList) -> Flattened
+    requires { ⌜ max ≤ 16 ⌝ }
+    ensures { λ r. ⌜ ((o : Option (List Core)) → words flat ≡ packed o → flattenedMeans r ≡ ok (packedFlat (atMost max o))) ⌝ }
+{
+    if flat.count <= max {
+        Flattened::List(flat)
+    } else {
+        Flattened::Memory
+    }
+}
+
+pub fn flatten_types(
+    memory: Memory,
+    max: u32,
+    table: &[u32],
+    n: u32,
+    references: &[u32],
+) -> Flattened
+    ensures { λ r. ⌜ flattenedMeans r ≡ packedFlattened (flattenAnswer (memoryOf memory) max (now (table .entry)) n (now (references .entry))) ⌝ }
+{
+    if too_many(references) {
+        return Flattened::Refused(Refusal::TooLong, MemberPosition(0));
+    }
+    if no_table(table, n) {
+        return Flattened::Refused(Refusal::BadRow, MemberPosition(0));
+    }
+    if max > MAX_FLAT_TYPES {
+        return Flattened::Refused(Refusal::BadCount, MemberPosition(0));
+    }
+    match gather(memory, table, n, references, 0) {
+        Gathered::All(all) => at_most(max, all.flat),
+        Gathered::Refused(why, position) => Flattened::Refused(why, position),
+    }
+}
+
+fn lowering_max(async_: bool) -> u32
+    ensures { λ r. ⌜ r ≡ loweringMax «async_» ⌝ }
+{
+    if async_ { 0 } else { MAX_FLAT_RESULTS }
+}
+
+pub(crate) fn lifting_max(async_: bool) -> u32
+    ensures { λ r. ⌜ r ≡ liftingMax «async_» ⌝ }
+{
+    if async_ {
+        MAX_FLAT_TYPES
+    } else {
+        MAX_FLAT_RESULTS
+    }
+}
+
+pub fn flatten_lowering_types(side: Side, table: &[u32], n: u32, references: &[u32]) -> Flattened
+    ensures { λ r. ⌜ flattenedMeans r ≡ packedFlattened (loweringAnswer (sideMeans side) (now (table .entry)) n (now (references .entry))) ⌝ }
+{
+    let memory = side.memory;
+    flatten_types(memory, lowering_max(side.async_), table, n, references)
+}
+
+pub fn flatten_lifting_types(side: Side, table: &[u32], n: u32, references: &[u32]) -> Flattened
+    ensures { λ r. ⌜ flattenedMeans r ≡ packedFlattened (liftingAnswer (sideMeans side) (now (table .entry)) n (now (references .entry))) ⌝ }
+{
+    let memory = side.memory;
+    flatten_types(memory, lifting_max(side.async_), table, n, references)
+}
+
+pub fn contains_borrow_resource(table: &[u32], n: u32, references: &[u32]) -> BorrowAnswer
+    ensures { λ r. ⌜ borrowMeans r ≡ borrowAnswer (now (table .entry)) n (now (references .entry)) ⌝ }
+{
+    match gather(Memory::Memory32, table, n, references, 0) {
+        Gathered::All(all) => BorrowAnswer::Reached(all.borrow),
+        Gathered::Refused(why, position) => BorrowAnswer::Refused(why, position),
+    }
+}

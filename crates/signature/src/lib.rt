@@ -1,0 +1,16 @@
+// Core signatures of lifted and lowered functions, over a table and lent lists of references.
+mod flatten;
+mod lists;
+mod signatures;
+
+pub use flatten::BorrowAnswer;
+pub use flatten::Flattened;
+pub use flatten::Side;
+pub use flatten::contains_borrow_resource;
+pub use flatten::flatten_lifting_types;
+pub use flatten::flatten_lowering_types;
+pub use flatten::flatten_types;
+pub use signatures::Signature;
+pub use signatures::SignatureAnswer;
+pub use signatures::async_return_signature;
+pub use signatures::async_start_signature;
