@@ -22,6 +22,7 @@ member-size x f h = go (x .large) h
   where
     a : ℕ
     a = max (x .align) (f .align)
+
     go : (b : Bool) → cond b (tooFar a) (reach (rounded (x .end) (f .align) + f .size) a) .large ≡ false → f .size ≤ cond b (tooFar a) (reach (rounded (x .end) (f .align) + f .size) a) .end
     go true h = let z : _≡_ {A = ℕ} 0 1 = cc in absurd (omega arith)
     go false h = reach-size (rounded (x .end) (f .align) + f .size) a (f .size) (omega arith) h

@@ -100,12 +100,27 @@ impl Payloads {
             entry32: NO_LAYOUT,
             entry64: NO_LAYOUT,
         };
-        fit_row(kind, whole32, whole64, flat.with_discriminant(), inner, self.borrow)
+        fit_row(
+            kind,
+            whole32,
+            whole64,
+            flat.with_discriminant(),
+            inner,
+            self.borrow,
+        )
     }
 }
 
 // A kind whose cases are the n references or marks from `first` on.
-pub(crate) fn cases_row(words: &[u32], first: usize, n: u32, table: &[u32], index: DefinitionIndex, kind: u32, size: DiscriminantSize) -> Rowed
+pub(crate) fn cases_row(
+    words: &[u32],
+    first: usize,
+    n: u32,
+    table: &[u32],
+    index: DefinitionIndex,
+    kind: u32,
+    size: DiscriminantSize,
+) -> Rowed
     requires { ⌜ first + n ≤ length (now words) ⌝ }
     ensures { λ r. ⌜ rowedMeans r ≡ foldRefs (caseLook (memberLook (now (table .entry)) (index .0))) addCase (refsAt (now (words .entry)) first n) noPayloads (payloadsRow kind (bytesOf size)) ⌝ }
 {
@@ -122,7 +137,13 @@ pub(crate) fn cases_row(words: &[u32], first: usize, n: u32, table: &[u32], inde
     payloads.row(kind, size)
 }
 
-pub(crate) fn variant_row(words: &[u32], first: usize, n: u32, table: &[u32], index: DefinitionIndex) -> Rowed
+pub(crate) fn variant_row(
+    words: &[u32],
+    first: usize,
+    n: u32,
+    table: &[u32],
+    index: DefinitionIndex,
+) -> Rowed
     requires { ⌜ first + n ≤ length (now words) ⌝ }
     ensures { λ r. ⌜ rowedMeans r ≡ variantRow (memberLook (now (table .entry)) (index .0)) (refsAt (now (words .entry)) first n) n ⌝ }
 {
@@ -142,12 +163,19 @@ pub(crate) fn enum_row(n: u32) -> Rowed
 }
 
 // The cases none and some.
-pub(crate) fn option_row(words: &[u32], first: usize, table: &[u32], index: DefinitionIndex) -> Rowed
+pub(crate) fn option_row(
+    words: &[u32],
+    first: usize,
+    table: &[u32],
+    index: DefinitionIndex,
+) -> Rowed
     requires { ⌜ first < length (now words) ⌝ }
     ensures { λ r. ⌜ rowedMeans r ≡ andThen (memberLook (now (table .entry)) (index .0) (getD (now (words .entry)) first 0)) optionRow ⌝ }
 {
     match member_at(table, index, words[first]) {
         Found::BadRef => Rowed::Refused(Refusal::BadRef),
-        Found::Info(payload) => Payloads::start().add(payload).row(OPTION, DiscriminantSize::Size1),
+        Found::Info(payload) => Payloads::start()
+            .add(payload)
+            .row(OPTION, DiscriminantSize::Size1),
     }
 }

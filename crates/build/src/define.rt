@@ -54,7 +54,15 @@ fn kind_row(words: &[u32], heading: Heading, table: &[u32], index: DefinitionInd
         Kind::Flags => flags_row(count),
         Kind::Enum => enum_row(count),
         Kind::Option => option_row(words, first, table, index),
-        Kind::Result => cases_row(words, first, 2, table, index, RESULT, DiscriminantSize::Size1),
+        Kind::Result => cases_row(
+            words,
+            first,
+            2,
+            table,
+            index,
+            RESULT,
+            DiscriminantSize::Size1,
+        ),
         Kind::FixedLengthList => fixed_row(words, first, table, index),
     }
 }

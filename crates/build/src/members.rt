@@ -67,12 +67,26 @@ impl Members {
         let in32 = self.in32;
         let in64 = self.in64;
         let flat = self.flat;
-        fit_row(kind, in32.close(), in64.close(), flat, NO_INNER, self.borrow)
+        fit_row(
+            kind,
+            in32.close(),
+            in64.close(),
+            flat,
+            NO_INNER,
+            self.borrow,
+        )
     }
 }
 
 // A record or a tuple of the n references from `first` on.
-pub(crate) fn members_row(words: &[u32], first: usize, n: u32, table: &[u32], index: DefinitionIndex, kind: u32) -> Rowed
+pub(crate) fn members_row(
+    words: &[u32],
+    first: usize,
+    n: u32,
+    table: &[u32],
+    index: DefinitionIndex,
+    kind: u32,
+) -> Rowed
     requires { ⌜ first + n ≤ length (now words) ⌝ }
     ensures { λ r. ⌜ rowedMeans r ≡ foldRefs (memberLook (now (table .entry)) (index .0)) addMember (refsAt (now (words .entry)) first n) noMembers (membersRow kind) ⌝ }
 {

@@ -55,7 +55,14 @@ pub(crate) fn pair_row(kind: u32, inner: Inner, borrow: bool) -> Rowed
 }
 
 // Refused where an extent is too large.
-pub(crate) fn fit_row(kind: u32, in32: Extent, in64: Extent, flat: FlatTypes, inner: Inner, borrow: bool) -> Rowed
+pub(crate) fn fit_row(
+    kind: u32,
+    in32: Extent,
+    in64: Extent,
+    flat: FlatTypes,
+    inner: Inner,
+    borrow: bool,
+) -> Rowed
     ensures { λ r. ⌜ rowedMeans r ≡ fitRow (pairOf in32 in64) (λ ls. wordsWith kind ls (flatMeans flat) (innerMeans inner) borrow) ⌝ }
 {
     if in32.large {

@@ -47,7 +47,14 @@ pub(crate) fn fixed_row(words: &[u32], first: usize, table: &[u32], index: Defin
             let in32 = element.in32;
             let in64 = element.in64;
             let flat = element.flat;
-            fit_row(FIXED_LENGTH_LIST, in32.repeat(count), in64.repeat(count), flat.repeat(count), NO_INNER, element.borrow)
+            fit_row(
+                FIXED_LENGTH_LIST,
+                in32.repeat(count),
+                in64.repeat(count),
+                flat.repeat(count),
+                NO_INNER,
+                element.borrow,
+            )
         }
     }
 }

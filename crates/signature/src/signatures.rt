@@ -2,8 +2,7 @@
 ghost use mathlib.Core.Path.{_≡_};
 ghost use mathlib.Core.List.{List};
 ghost use Rattle.canon.specs.Row.{Info};
-ghost use Rattle.canon.specs.Signature.{paramsMax, returnOf, asyncStartAnswer, asyncReturnAnswer};
-ghost use Rattle.canon.specs.Signature.{flatAll};
+ghost use Rattle.canon.specs.Signature.{flatAll, paramsMax, returnOf, asyncStartAnswer, asyncReturnAnswer};
 ghost use Rattle.flat_types.specs.Lists.{memoryOf, packed, words};
 ghost use Rattle.signature.specs.Means.{sideMeans, signatureMeans, answerMeans};
 ghost use Rattle.signature.specs.Packs.{isEmpty, behind, packedSignature, packedAnswer};

@@ -18,7 +18,7 @@ abbrev μ-loop : tie.MeasureT-loop
 μ-loop words table₀ room rows₀ at₀ table rows at = length words - at
 
 returns : tie.Need-returns Inv-loop μ-loop
-returns c = 
+returns c =
     let a = c .before .before .before .args in
     let r = too-long (now (a .words)) (now (a .table)) (c .if1 .taken) in
     (r .answer, r .table)
@@ -36,7 +36,7 @@ same-length : tie.Need-same-length Inv-loop μ-loop
 same-length c = same-length-of (c .before .before .loop .inv)
 
 returns-2 : tie.Need-returns-2 Inv-loop μ-loop
-returns-2 c = 
+returns-2 c =
     let room = c .before .before .before .capacity .ensures in
     let r = no-room (c .before .before .loop .inv) (omega arith) (omega arith) (omega arith) in
     (r .answer, r .table)
@@ -51,7 +51,7 @@ same-length-2 : tie.Need-same-length-2 Inv-loop μ-loop
 same-length-2 c = same-length-of (c .before .before .before .before .before .before .before .loop .inv)
 
 returns-3 : tie.Need-returns-3 Inv-loop μ-loop
-returns-3 c = 
+returns-3 c =
     let room = c .before .before .before .before .before .before .before .before .capacity .ensures in
     let short = c .before .before .before .before .before .before .before .before .before .if1 .left in
     let r = stops (c .before .before .before .before .before .before .before .loop .inv) _ (sym (c .before .before .before .define .ensures) ∙ ap definedMeans (c .before .why .given .1)) (omega arith) (omega arith) (omega arith) in
@@ -67,13 +67,13 @@ add-rows : tie.Need-add-rows Inv-loop μ-loop
 add-rows c = omega (arith, c .before .before .before .before .before .before .before .before .before .if2 .left, c .before .before .before .before .before .before .before .before .before .before .before .before .capacity .ensures)
 
 loop-less : tie.Need-loop-less Inv-loop μ-loop
-loop-less c = 
+loop-less c =
     let l = c .before .before .before .before .before .before .before .before .before .before .before .loop in
     let told = sym (c .before .before .before .before .before .before .before .define .ensures) ∙ ap definedMeans (c .before .before .before .before .before .row .given .1) in
     omega (arith, moves-on _ (now (c .before .before .before .before .before .before .before .before .before .before .before .before .before .before .before .before .args .words)) (l .at) _ told, c .before .before .before .before .before .before .before .before .before .before .loop-test .taken)
 
 loop-again : tie.Need-loop-again Inv-loop μ-loop
-loop-again c = 
+loop-again c =
     let l = c .before .before .before .before .before .before .before .before .before .before .before .loop in
     let told = sym (c .before .before .before .before .before .before .before .define .ensures) ∙ ap definedMeans (c .before .before .before .before .before .row .given .1) in
     let room = c .before .before .before .before .before .before .before .before .before .before .before .before .capacity .ensures in
@@ -83,7 +83,7 @@ same-length-3 : tie.Need-same-length-3 Inv-loop μ-loop
 same-length-3 c = same-length-of (c .before .loop .inv)
 
 returns-4 : tie.Need-returns-4 Inv-loop μ-loop
-returns-4 c = 
+returns-4 c =
     let r = ends (c .before .loop .inv) (omega arith) (omega arith) in
     (r .answer, r .table)
 

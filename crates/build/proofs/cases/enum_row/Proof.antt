@@ -27,10 +27,12 @@ returns c = simp
 
 returns-2 : tie.Need-returns-2
 unfolding andThen enumRow
-returns-2 c = simp
-    (c .row .ensures,
-    c .before .start .ensures,
-    ← c .before .before .before .before .before .from-count .ensures, c .before .before .before .size .given .1)
+returns-2 c = simp (
+  c .row .ensures,
+  c .before .start .ensures,
+  ← c .before .before .before .before .before .from-count .ensures,
+  c .before .before .before .size .given .1,
+)
 
 pub enum-row-spec : {M : Type 1} → statement M
 enum-row-spec =

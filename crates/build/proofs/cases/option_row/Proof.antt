@@ -36,11 +36,13 @@ returns c = simp
 
 returns-2 : tie.Need-returns-2
 unfolding andThen optionRow
-returns-2 c = simp
-    (c .row .ensures,
-    c .before .add .ensures,
-    c .before .before .start .ensures,
-    ← c .before .before .before .before .before .before .member-at .ensures, c .before .before .before .before .payload .given .1)
+returns-2 c = simp (
+  c .row .ensures,
+  c .before .add .ensures,
+  c .before .before .start .ensures,
+  ← c .before .before .before .before .before .before .member-at .ensures,
+  c .before .before .before .before .payload .given .1,
+)
 
 pub option-row-spec : {M : Type 1} → statement M
 option-row-spec =

@@ -27,7 +27,7 @@ returns c = simp (← c .before .before .before .from-count .ensures, c .before 
 
 returns-2 : tie.Need-returns-2
 unfolding variantRow
-returns-2 c = 
+returns-2 c =
     let s = c .before .before .size .given in
     c .cases-row .ensures ∙ sym (then-is (discriminantAnswer (c .before .before .before .before .before .before .before .args .n)) (bytesOf (s .0 .0)) _ (sym (c .before .before .before .before .from-count .ensures) ∙ ap discriminantMeans (s .1)))
 

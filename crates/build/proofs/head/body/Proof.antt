@@ -17,7 +17,7 @@ sub-left c = search needs
 
 returns : tie.Need-returns
 unfolding bodyAt
-returns c = 
+returns c =
     let a = c .before .before .args in
     rw (nothing-left (kindMeans (a .kind)) (getD (now (a .words)) (a .from) 0) (length (now (a .words)) - a .from) (c .if1 .taken)) (refl, tt)
 
@@ -52,7 +52,7 @@ add-t16 c = search needs
 
 returns-4 : tie.Need-returns-4
 unfolding bodyAt
-returns-4 c = 
+returns-4 c =
     let a = c .before .before .before .before .before .before .before .before .args in
     let n = body-sizes (kindMeans (a .kind)) (getD (now (a .words)) (a .from) 0) in
     let l = c .before .before .before .before .body-length .ensures in

@@ -32,7 +32,7 @@ returns c = simp (← c .before .before .kind-of .ensures, c .enum-told .given .
 
 returns-2 : tie.Need-returns-2
 unfolding headAt headKind
-returns-2 c = 
+returns-2 c =
     (simp (c .body .ensures .0, ← c .before .before .before .before .kind-of .ensures, c .before .before .kind .given .1), c .body .ensures .1)
 
 pub read-head-spec : {M : Type 1} → statement M

@@ -17,14 +17,14 @@ entry-requires-2 c κs = search needs
 
 returns : tie.Need-returns
 unfolding entryRow fitRow
-returns c = 
+returns c =
     let e32 = c .before .before .entry .ensures in
     let e64 = c .before .entry2 .ensures in
     rw (sym (ap (λ (x : Extent). x .large) e32) ∙ c .if1 .taken)
 
 returns-2 : tie.Need-returns-2
 unfolding entryRow fitRow
-returns-2 c = 
+returns-2 c =
     let e32 = c .before .before .before .entry .ensures in
     let e64 = c .before .before .entry2 .ensures in
     rw (sym (ap (λ (x : Extent). x .large) e32) ∙ c .before .if1 .left, sym (ap (λ (x : Extent). x .large) e64) ∙ c .if2 .taken)
@@ -46,7 +46,7 @@ pair-row-requires c κs = search needs
 
 returns-3 : tie.Need-returns-3
 unfolding entryRow fitRow
-returns-3 c = 
+returns-3 c =
     let e32 = c .before .before .before .before .before .before .before .before .before .before .entry .ensures in
     let e64 = c .before .before .before .before .before .before .before .before .before .entry2 .ensures in
     let a = c .before .before .before .before .before .before .before .before .before .before .before .before .before .before .before .args in

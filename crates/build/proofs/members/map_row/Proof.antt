@@ -48,16 +48,22 @@ returns c = simp
 
 returns-2 : tie.Need-returns-2
 unfolding andThen mapRow
-returns-2 c = simp
-    (← c .before .before .member-at2 .ensures, c .enum-told2 .given .1,
-    ← c .before .before .before .before .before .before .before .member-at .ensures, c .before .before .before .before .before .key .given .1)
+returns-2 c = simp (
+  ← c .before .before .member-at2 .ensures,
+  c .enum-told2 .given .1,
+  ← c .before .before .before .before .before .before .before .member-at .ensures,
+  c .before .before .before .before .before .key .given .1,
+)
 
 returns-3 : tie.Need-returns-3
 unfolding andThen mapRow
-returns-3 c = simp
-    (c .entry-row .ensures,
-    ← c .before .before .before .before .member-at2 .ensures, c .before .before .value .given .1,
-    ← c .before .before .before .before .before .before .before .before .before .member-at .ensures, c .before .before .before .before .before .before .before .key .given .1)
+returns-3 c = simp (
+  c .entry-row .ensures,
+  ← c .before .before .before .before .member-at2 .ensures,
+  c .before .before .value .given .1,
+  ← c .before .before .before .before .before .before .before .before .before .member-at .ensures,
+  c .before .before .before .before .before .before .before .key .given .1,
+)
 
 pub map-row-spec : {M : Type 1} → statement M
 map-row-spec =

@@ -22,14 +22,14 @@ member-requires-2 c κs = search needs
 
 returns : tie.Need-returns
 unfolding valueOffset
-returns c = 
+returns c =
     let a = c .before .before .before .before .args in
     let e = (c .before .member2 .ensures ∙ ap (λ (x : Extent). memberOf x (layoutMeans (a .value))) (c .before .before .member .ensures ∙ ap (λ (x : Extent). memberOf x (layoutMeans (a .key))) (c .before .before .before .start .ensures))) in
     let l : memberOf (memberOf startExtent (layoutMeans (a .key))) (layoutMeans (a .value)) .large ≡ true = sym (ap (λ (x : Extent). x .large) e) ∙ c .if1 .taken in
     rw l
 
 sub-result : tie.Need-sub-result
-sub-result c = 
+sub-result c =
     let a = c .before .before .before .before .before .before .args in
     let e = (c .before .before .before .member2 .ensures ∙ ap (λ (x : Extent). memberOf x (layoutMeans (a .value))) (c .before .before .before .before .member .ensures ∙ ap (λ (x : Extent). memberOf x (layoutMeans (a .key))) (c .before .before .before .before .before .start .ensures))) in
     let l : memberOf (memberOf startExtent (layoutMeans (a .key))) (layoutMeans (a .value)) .large ≡ false = sym (ap (λ (x : Extent). x .large) e) ∙ c .before .before .if1 .left in
@@ -37,7 +37,7 @@ sub-result c =
 
 returns-2 : tie.Need-returns-2
 unfolding valueOffset
-returns-2 c = 
+returns-2 c =
     let a = c .before .before .before .before .before .before .args in
     let e = (c .before .before .before .member2 .ensures ∙ ap (λ (x : Extent). memberOf x (layoutMeans (a .value))) (c .before .before .before .before .member .ensures ∙ ap (λ (x : Extent). memberOf x (layoutMeans (a .key))) (c .before .before .before .before .before .start .ensures))) in
     let l : memberOf (memberOf startExtent (layoutMeans (a .key))) (layoutMeans (a .value)) .large ≡ false = sym (ap (λ (x : Extent). x .large) e) ∙ c .before .before .if1 .left in

@@ -21,15 +21,19 @@ enum-told c = search needs
 
 returns-2 : tie.Need-returns-2
 unfolding caseLook andThen
-returns-2 c = simp
-    (← c .before .before .before .member-at .ensures, c .before .info .given .1,
-    ne-eqb _ _ (c .before .before .before .before .if1 .left))
+returns-2 c = simp (
+  ← c .before .before .before .member-at .ensures,
+  c .before .info .given .1,
+  ne-eqb _ _ (c .before .before .before .before .if1 .left),
+)
 
 returns-3 : tie.Need-returns-3
 unfolding caseLook andThen
-returns-3 c = simp
-    (← c .before .before .member-at .ensures, c .enum-told .given .1,
-    ne-eqb _ _ (c .before .before .before .if1 .left))
+returns-3 c = simp (
+  ← c .before .before .member-at .ensures,
+  c .enum-told .given .1,
+  ne-eqb _ _ (c .before .before .before .if1 .left),
+)
 
 pub case-at-spec : {M : Type 1} → statement M
 case-at-spec =

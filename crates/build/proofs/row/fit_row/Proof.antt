@@ -14,9 +14,10 @@ returns c = simp
 
 returns-2 : tie.Need-returns-2
 unfolding fitRow
-returns-2 c = simp
-    (c .if2 .taken,
-    c .before .if1 .left)
+returns-2 c = simp (
+  c .if2 .taken,
+  c .before .if1 .left,
+)
 
 layout-of-requires : tie.Need-layout-of-requires
 layout-of-requires c κs = search needs
@@ -26,7 +27,7 @@ layout-of-requires-2 c κs = search needs
 
 returns-3 : tie.Need-returns-3
 unfolding fitRow
-returns-3 c = 
+returns-3 c =
     let a = c .before .before .before .before .args in
     let s32 = c .before .layout-of .ensures in
     let s64 = c .layout-of2 .ensures in

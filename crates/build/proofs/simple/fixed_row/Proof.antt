@@ -60,7 +60,7 @@ returns c = simp
 
 returns-2 : tie.Need-returns-2
 unfolding fixedRow
-returns-2 c = 
+returns-2 c =
     let i = c .before .before .before .before .before .before .before .before .element .given in
     let a = c .before .before .before .before .before .before .before .before .before .before .before .before .before .before .before .args in
     let n = getD (now (a .words)) (a .first + 1) 0 in

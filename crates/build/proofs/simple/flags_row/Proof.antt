@@ -31,13 +31,14 @@ flags-requires-2 c κs = search needs
 
 returns : tie.Need-returns
 unfolding andThen flagsRow
-returns c = simp
-    (← c .before .before .before .flags .ensures,
-    c .before .why .given .1)
+returns c = simp (
+  ← c .before .before .before .flags .ensures,
+  c .before .why .given .1,
+)
 
 returns-2 : tie.Need-returns-2
 unfolding flagsRow
-returns-2 c = 
+returns-2 c =
     let i = c .before .before .abi .given in
     let n = c .before .before .before .before .before .args .count in
     (λ j. is (wordsWith 6 (abiMeans (i .0 .0) .layouts) (flat-same (c .flags2 .result) (λ m. packed (some (flagsFlat n))) (c .flags2 .ensures) j) (both (λ m. noInner)) false))

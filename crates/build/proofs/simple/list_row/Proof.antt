@@ -30,9 +30,11 @@ returns c = simp
 
 returns-2 : tie.Need-returns-2
 unfolding andThen listRow
-returns-2 c = simp
-    (c .pair-row .ensures,
-    ← c .before .before .before .before .member-at .ensures, c .before .before .element .given .1)
+returns-2 c = simp (
+  c .pair-row .ensures,
+  ← c .before .before .before .before .member-at .ensures,
+  c .before .before .element .given .1,
+)
 
 pub list-row-spec : {M : Type 1} → statement M
 list-row-spec =

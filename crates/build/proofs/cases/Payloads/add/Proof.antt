@@ -24,10 +24,10 @@ join-requires c κs = search needs
 
 returns : tie.Need-returns
 unfolding addPayload
-returns c = 
+returns c =
     let a = c .before .before .before .before .before .before .before .before .before .before .before .args in
     let words : (m : Memory) → wordsIn m (c .before .before .join .result) ≡ packed (lift2 joinLists (unpacked (within m (flatMeans (a .self .flat)))) (unpacked (infoWords m (infoMeans (a .payload))))) =
-        λ m. rw (in-memory m (a .self .flat), words-kept m (a .payload)) (c .before .before .join .ensures m) in
+    λ m. rw (in-memory m (a .self .flat), words-kept m (a .payload)) (c .before .before .join .ensures m) in
     λ i. record {
       layouts = pair-same (c .before .before .before .before .widest .ensures) (c .before .before .before .widest2 .ensures) i;
       flats = flat-same (c .before .before .join .result) _ words i;

@@ -31,9 +31,11 @@ returns-2 c = simp
 
 returns-3 : tie.Need-returns-3
 unfolding andThen addCase
-returns-3 c = simp
-    (c .add .ensures,
-    ← c .before .before .before .before .case-at .ensures, c .before .before .payload .given .1)
+returns-3 c = simp (
+  c .add .ensures,
+  ← c .before .before .before .before .case-at .ensures,
+  c .before .before .payload .given .1,
+)
 
 pub add-case-spec : {M : Type 1} → statement M
 add-case-spec =

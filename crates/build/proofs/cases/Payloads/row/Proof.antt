@@ -31,7 +31,7 @@ fit-row-requires c κs = search needs
 
 returns : tie.Need-returns
 unfolding payloadsRow
-returns c = 
+returns c =
     let d = c .before .before .byte-size .ensures in
     let v32 = c .before .before .before .before .before .before .variant .ensures in
     let v64 = c .before .before .before .before .before .variant2 .ensures in

@@ -24,10 +24,10 @@ append-requires c κs = search needs
 
 returns : tie.Need-returns
 unfolding addMember
-returns c = 
+returns c =
     let a = c .before .before .before .before .before .before .before .before .before .before .before .args in
     let words : (m : Memory) → wordsIn m (c .before .before .append .result) ≡ packed (lift2 _++_ (unpacked (within m (flatMeans (a .self .flat)))) (unpacked (infoWords m (infoMeans (a .member))))) =
-        λ m. rw (in-memory m (a .self .flat), words-kept m (a .member)) (c .before .before .append .ensures m) in
+    λ m. rw (in-memory m (a .self .flat), words-kept m (a .member)) (c .before .before .append .ensures m) in
     λ i. record {
       extents = pair-same (c .before .before .before .before .member .ensures) (c .before .before .before .member2 .ensures) i;
       flats = flat-same (c .before .before .append .result) _ words i;
