@@ -9,7 +9,7 @@ use native.Mathlib.Omega.{arith}
 use lib.Dec.{eqb}
 use lib.ListN.{length, getD, take, drop, length-drop}
 use lib.Seq.{take-nil, length-take-le, getD-take, getD-drop, drop-drop}
-use Rattle.canon.specs.Answer.{Leaf, lift, lift2}
+use Rattle.canon.specs.Answer.{Leaf, lift, lift2, andThen}
 use Rattle.canon.specs.Types.{Ty, variantOf, listOf, mapOf, enumOf, optionOf, resultOf, fixedOf, Members, Case, Cases, ∎, _▸_, count}
 use Rattle.canon.specs.Layout.{discriminant}
 use Rattle.canon.specs.Row.{infoOf, kindWord}
@@ -37,7 +37,7 @@ use Rattle.canon.specs.Description.{
 use Rattle.canon.proofs.Tests.{impossible}
 use Rattle.canon.proofs.Built.{typeInfo}
 use Rattle.canon.proofs.Refusals.{Product, aRecord, aTuple}
-use Rattle.build.specs.Steps.{andThen, caseLook, refsAt, foldRefs, noMembers, addMember, membersRow, noPayloads, addCase, payloadsRow}
+use Rattle.build.specs.Steps.{caseLook, refsAt, foldRefs, noMembers, addMember, membersRow, noPayloads, addCase, payloadsRow}
 use Rattle.build.specs.Heads.{skipped}
 use Rattle.build.specs.Kinds.{listRow, fixedRow, variantRow, enumRow, optionRow, entryRow, mapRow, rowOfKind}
 use Rattle.build.proofs.FitLaws.{rowLeaf}

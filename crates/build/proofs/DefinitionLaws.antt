@@ -10,7 +10,7 @@ use lib.Dec.{ltb}
 use lib.ListN.{length, getD, take, drop, length-drop}
 use lib.Seq.{getD-drop}
 use borrow.Author.Tests.{ltb-false}
-use Rattle.canon.specs.Answer.{Leaf, is, no as refuses, truncated, badCount, tooLarge}
+use Rattle.canon.specs.Answer.{Leaf, is, no as refuses, truncated, badCount, tooLarge, andThen}
 use Rattle.canon.specs.Types.{Ty}
 use Rattle.canon.specs.Layout.{mem32, mem64}
 use Rattle.canon.specs.Row.{Info, rowOf}
@@ -38,7 +38,6 @@ use Rattle.canon.specs.Description.{
 }
 use Rattle.canon.proofs.Tests.{impossible}
 use Rattle.canon.proofs.Built.{typeInfo}
-use Rattle.build.specs.Steps.{andThen}
 use Rattle.build.specs.Heads.{Heading, skipped, operands, Spans, bodyAt, headKind, headAt}
 use Rattle.build.specs.Kinds.{kindRow, DefinedIs, definedAt}
 use Rattle.build.proofs.FitLaws.{rowLeaf}

@@ -7,7 +7,7 @@ use Prim.Native.Nat.{ℕ, _+_, _≤_}
 use native.Mathlib.Omega.{arith}
 use lib.Dec.{ltb}
 use borrow.Author.Tests.{ltb-false, le-leb}
-use Rattle.canon.specs.Answer.{is}
+use Rattle.canon.specs.Answer.{is, andThen}
 use Rattle.canon.specs.Types.{Ty, listOf, mapOf, flagsOf, fixedOf}
 use Rattle.canon.specs.Round.{roundUp}
 use Rattle.canon.specs.Layout.{Memory, mem32, mem64, Layout, starts, lastEnd, greatestAlign, recordSize, recordLayout, flagsLayout, fixedLayout, largestNumber, layout}
@@ -22,7 +22,6 @@ use Rattle.types.specs.Extents.{startExtent, endsAt, memberOf}
 use Rattle.types.specs.Leaves.{given, flagsAnswer}
 use Rattle.types.proofs.ExtentLaws.{membersOf, members-reach, record-reach, reach-at}
 use Rattle.flat_types.proofs.Trees.{flags-type, fixed-type}
-use Rattle.build.specs.Steps.{andThen}
 use Rattle.build.specs.Kinds.{listRow, fixedRow, flagsRow, valueOffset, entryRow}
 use Rattle.build.proofs.FitLaws.{rowLeaf, each, type-counted, row-words, row-fits, fit-row}
 

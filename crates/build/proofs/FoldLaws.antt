@@ -5,13 +5,13 @@ use mathlib.Core.List.{List, [], _∷_}
 use mathlib.Core.Option.{Option, none, some}
 use Prim.Native.Nat.{ℕ}
 use lib.Dec.{eqb}
-use Rattle.canon.specs.Answer.{Leaf, is, no as refuses, lift, lift2, badRef}
+use Rattle.canon.specs.Answer.{Leaf, is, no as refuses, lift, lift2, badRef, andThen}
 use Rattle.canon.specs.Types.{Ty, Members, ∅, _◂_, Case, bare, holding, Cases, ∎, _▸_}
 use Rattle.canon.specs.Row.{Info, infoOf}
 use Rattle.canon.specs.Description.{mark, reference, caseOf, membersOf, casesOf}
 use Rattle.canon.specs.Question.{plainInfo}
 use Rattle.canon.proofs.Built.{typeInfo}
-use Rattle.build.specs.Steps.{andThen, caseLook, foldRefs}
+use Rattle.build.specs.Steps.{caseLook, foldRefs}
 
 -- what is missing is a bad reference
 abbrev pub orBad : {A B : Type 0} → Option A → (A → Leaf B) → Leaf B

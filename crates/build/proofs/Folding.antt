@@ -6,8 +6,8 @@ use native.Mathlib.Numerals.{add-one}
 use native.Mathlib.Omega.{arith}
 use lib.ListN.{length, getD}
 use lib.Seq.{drop-cons}
-use Rattle.canon.specs.Answer.{Leaf, is, no}
-use Rattle.build.specs.Steps.{andThen, refsAt, foldRefs}
+use Rattle.canon.specs.Answer.{Leaf, is, no, andThen}
+use Rattle.build.specs.Steps.{refsAt, foldRefs}
 
 refs-cons : (ws : List ℕ) (at end : ℕ) → at < end → end ≤ length ws → refsAt ws at (end - at) ≡ getD ws at 0 ∷ refsAt ws (at + 1) (end - (at + 1))
 unfolding refsAt

@@ -2,7 +2,7 @@
 use mathlib.Core.Path.{_≡_, refl, ap}
 use mathlib.Core.Bool.{Bool}
 use Prim.Native.Nat.{ℕ}
-use Rattle.canon.specs.Answer.{Leaf, is, no}
+use Rattle.canon.specs.Answer.{Leaf, is, no, andThen}
 use Rattle.canon.specs.Row as canon
 use Rattle.canon.specs.Layout.{Memory, mem32, mem64, Both, both, within}
 use Rattle.canon.specs.Pack.{Packed}
@@ -15,7 +15,7 @@ use Rattle.table.specs.Means.{infoMeans, foundMeans}
 use Rattle.table.specs.declared.plain.Found.{Found}
 use Rattle.table.specs.declared.plain.Found.the-variants as found
 use Rattle.table.specs.declared.info.Info.{Info}
-use Rattle.build.specs.Steps.{pairOf, wordsWith, fitRow, infoWords, andThen, MembersIs, addMember}
+use Rattle.build.specs.Steps.{pairOf, wordsWith, fitRow, infoWords, MembersIs, addMember}
 use Rattle.build.specs.Means.{flatMeans}
 
 pub pair-same : {A : Type 0} {a a′ b b′ : A} → a ≡ a′ → b ≡ b′ → pairOf a b ≡ pairOf a′ b′

@@ -4,7 +4,7 @@ use mathlib.Core.List.{List}
 use mathlib.Core.Option.{some}
 use Prim.Native.Nat.{ℕ, _+_, _-_, _*_}
 use lib.ListN.{getD}
-use Rattle.canon.specs.Answer.{Leaf, is, lift}
+use Rattle.canon.specs.Answer.{Leaf, is, lift, andThen}
 use Rattle.canon.specs.Layout.{both, within, Layout}
 use Rattle.canon.specs.Flat.{copies, flagsFlat}
 use Rattle.canon.specs.Description.{Kind, kRecord, kVariant, kList, kTuple, kMap, kFlags, kEnum, kOption, kResult, kFixed}
@@ -13,24 +13,7 @@ use Rattle.types.specs.Extents.{startExtent, reach, memberOf, closeOf}
 use Rattle.types.specs.Leaves.{discriminantAnswer, flagsAnswer}
 use Rattle.types.specs.declared.extent.Extent.{Extent}
 use Rattle.flat_types.specs.Lists.{unpacked, packed}
-use Rattle.build.specs.Steps.{
-  andThen,
-  caseLook,
-  refsAt,
-  foldRefs,
-  wordsWith,
-  pairWords,
-  fitRow,
-  infoWords,
-  infoLayout,
-  noMembers,
-  addMember,
-  membersRow,
-  noPayloads,
-  addPayload,
-  addCase,
-  payloadsRow,
-}
+use Rattle.build.specs.Steps.{caseLook, refsAt, foldRefs, wordsWith, pairWords, fitRow, infoWords, infoLayout, noMembers, addMember, membersRow, noPayloads, addPayload, addCase, payloadsRow}
 use Rattle.build.specs.Heads.{Heading, headAt}
 
 unfoldable pub listRow : Info → Leaf (List ℕ)

@@ -5,7 +5,7 @@ use mathlib.Core.Option.{Option, none, some}
 use Prim.Native.Nat.{ℕ, _-_}
 use lib.Dec.{leb, ltb, eqb}
 use lib.ListN.{take, drop, getElem?}
-use Rattle.canon.specs.Answer.{Leaf, is, no, lift, lift2, badRef, tooLarge}
+use Rattle.canon.specs.Answer.{Leaf, is, no, lift, lift2, badRef, tooLarge, andThen}
 use Rattle.canon.specs.Layout.{Memory, Both, both, within, Layout}
 use Rattle.canon.specs.Flat.{I32, joinLists}
 use Rattle.canon.specs.Pack.{Packed}
@@ -16,11 +16,6 @@ use Rattle.types.specs.Extents.{startExtent, memberOf, closeOf, variantOf, wide
 use Rattle.types.specs.declared.extent.Extent.{Extent}
 use Rattle.flat_types.specs.Lists.{unpacked, packed}
 use Rattle.table.specs.Rows.{rowIn}
-
--- a refusal stays
-unfoldable pub andThen : {A B : Type 0} → Leaf A → (A → Leaf B) → Leaf B
-andThen (is a) k = k a
-andThen (no x) k = no x
 
 -- References
 

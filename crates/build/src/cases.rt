@@ -2,12 +2,12 @@
 ghost use mathlib.Core.Path.{_≡_};
 ghost use Prim.Native.Nat.{_+_, _≤_, _<_};
 ghost use lib.ListN.{length, getD};
-ghost use Rattle.canon.specs.Answer.{is};
+ghost use Rattle.canon.specs.Answer.{is, andThen};
 ghost use Rattle.types.specs.Means.{bytesOf};
 ghost use Rattle.table.specs.Means.{infoMeans};
 ghost use Rattle.build.specs.Means.{payloadsMeans, joinedMeans, rowedMeans};
 ghost use Rattle.build.specs.Kinds.{variantRow, enumRow, optionRow};
-ghost use Rattle.build.specs.Steps.{andThen, noPayloads, addPayload, addCase, payloadsRow, memberLook, caseLook, foldRefs, refsAt};
+ghost use Rattle.build.specs.Steps.{noPayloads, addPayload, addCase, payloadsRow, memberLook, caseLook, foldRefs, refsAt};
 use crate::reference::Payload;
 use crate::reference::case_at;
 use crate::reference::member_at;

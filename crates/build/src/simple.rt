@@ -2,8 +2,9 @@
 ghost use mathlib.Core.Path.{_≡_};
 ghost use Prim.Native.Nat.{_+_, _<_};
 ghost use lib.ListN.{length, getD};
+ghost use Rattle.canon.specs.Answer.{andThen};
 ghost use Rattle.build.specs.Means.{rowedMeans};
-ghost use Rattle.build.specs.Steps.{andThen, memberLook};
+ghost use Rattle.build.specs.Steps.{memberLook};
 ghost use Rattle.build.specs.Kinds.{listRow, fixedRow, flagsRow};
 use crate::reference::member_at;
 use crate::row::NO_INNER;

@@ -34,6 +34,11 @@ pub data Leaf (A : Type 0) : Type 0 where
   is : A → Leaf A
   no : ℕ → Leaf A
 
+-- a refusal stays; a value goes on
+unfoldable pub andThen : {A B : Type 0} → Leaf A → (A → Leaf B) → Leaf B
+andThen (is a) k = k a
+andThen (no x) k = no x
+
 -- 01: "It answers the number with the reference's position, 0 if no reference is at fault"
 pub data Answer (A : Type 0) : Type 0 where
   ok : A → Answer A

@@ -6,7 +6,7 @@ use mathlib.Core.Option.{Option, some}
 use Prim.Native.Nat.{ℕ, zero, suc, _+_, _*_, _<_, max}
 use native.Mathlib.Omega.{arith}
 use lib.Dec.{eqb, ltb}
-use Rattle.canon.specs.Answer.{Leaf, is, no, badCount, tooLarge}
+use Rattle.canon.specs.Answer.{Leaf, is, no, badCount, tooLarge, andThen}
 use Rattle.canon.specs.Round.{roundUp, Alignment, by1, by2, by4, by8}
 use Rattle.canon.specs.Layout.{
   Memory,
@@ -32,7 +32,7 @@ use Rattle.canon.proofs.Sizes.{above-append, last-decides}
 use Rattle.types.specs.declared.extent.Extent.{Extent}
 use Rattle.types.specs.Leaves.{scalarAbi, given, fitting, inEither, nextField, discriminantAnswer, enumAnswer, fixedAnswer}
 use Rattle.types.specs.Extents.{endsAt, tooFar, reach, fieldOf}
-use Rattle.types.specs.States.{andThen, fitted}
+use Rattle.types.specs.States.{fitted}
 use Rattle.types.proofs.RoundLaws.{alignment-is}
 use Rattle.types.proofs.ExtentLaws.{field-exact}
 

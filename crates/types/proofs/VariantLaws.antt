@@ -10,7 +10,7 @@ use native.Mathlib.Omega.{arith}
 use lib.Dec.{leb, eqb}
 use lib.ListN.{length}
 use borrow.Author.Tests.{lt-leb, leb-true, leb-false, ne-eqb}
-use Rattle.canon.specs.Answer.{Leaf, is, no, badCount, tooLarge}
+use Rattle.canon.specs.Answer.{Leaf, is, no, badCount, tooLarge, andThen}
 use Rattle.canon.specs.Layout.{
   mem32,
   mem64,
@@ -48,7 +48,7 @@ use Rattle.types.specs.Leaves.{
 }
 use Rattle.types.specs.declared.extent.VariantExtent.{VariantExtent}
 use Rattle.types.specs.Extents.{reach, widest, variantOf}
-use Rattle.types.specs.States.{andThen, Cases, oneMore, noCases, addCase, addCases, sizedCases, closeCases}
+use Rattle.types.specs.States.{Cases, oneMore, noCases, addCase, addCases, sizedCases, closeCases}
 use Rattle.types.proofs.RoundLaws.{rounded-aligned}
 use Rattle.types.proofs.ExtentLaws.{reach-large}
 use Rattle.types.proofs.AnswerLaws.{fitted-fits, discriminant-then}

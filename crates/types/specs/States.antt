@@ -3,7 +3,7 @@ use mathlib.Core.Bool.{Bool, false, _||_, cond, not}
 use mathlib.Core.List.{List, [], _∷_}
 use mathlib.Core.Option.{Option, none, some}
 use Prim.Native.Nat.{ℕ, _+_, min}
-use Rattle.canon.specs.Answer.{Leaf, is, no, tooLarge, badRow}
+use Rattle.canon.specs.Answer.{Leaf, is, no, tooLarge, badRow, andThen}
 use Rattle.canon.specs.Layout.{Both, both, within, Layout}
 use Rattle.canon.specs.Flat.{addFlat, maxFlat}
 use Rattle.canon.specs.Row.{Abi, goodAbi}
@@ -13,11 +13,6 @@ use Rattle.types.specs.declared.variant.VariantState.{VariantState}
 use Rattle.types.specs.Leaves.{VariantAbi, given, discriminantAnswer}
 use Rattle.types.specs.Means.{countMeans, layoutMeans}
 use Rattle.types.specs.Extents.{startExtent, memberOf, closeOf, widest, variantOf}
-
--- a refusal stays; an answer goes on
-unfoldable pub andThen : {A B : Type 0} → Leaf A → (A → Leaf B) → Leaf B
-andThen (is a) k = k a
-andThen (no x) k = no x
 
 -- the info of what ends so in the two memories
 unfoldable pub fitted : Both Extent → Option ℕ → Leaf Abi

@@ -1,5 +1,5 @@
 -- No case is refused; else no payloads.
-use Rattle.build.specs.Steps.{andThen}
+use Rattle.canon.specs.Answer.{andThen}
 use Rattle.build.specs.Kinds.{enumRow}
 use borrow.Author.Needs.{needs}
 use Rattle.build.proofs.cases.enum_row.Statement.{statement}

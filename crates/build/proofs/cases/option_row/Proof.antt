@@ -1,5 +1,5 @@
 -- A bad reference, or one payload.
-use Rattle.build.specs.Steps.{andThen}
+use Rattle.canon.specs.Answer.{andThen}
 use Rattle.build.specs.Kinds.{optionRow}
 use borrow.Author.Needs.{needs}
 use Rattle.build.proofs.cases.option_row.Statement.{statement}

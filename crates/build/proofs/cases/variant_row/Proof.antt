@@ -1,8 +1,8 @@
 -- No case is refused; else the cases.
 use mathlib.Core.Path.{sym, ap, _∙_}
+use Rattle.canon.specs.Answer.{andThen}
 use Rattle.types.specs.Leaves.{discriminantAnswer}
 use Rattle.types.specs.Means.{bytesOf, discriminantMeans}
-use Rattle.build.specs.Steps.{andThen}
 use Rattle.build.specs.Kinds.{variantRow}
 use Rattle.build.proofs.Wording.{then-is}
 use borrow.Author.Needs.{needs}

@@ -1,5 +1,5 @@
 -- The head, then the row of its kind.
-use Rattle.build.specs.Steps.{andThen}
+use Rattle.canon.specs.Answer.{andThen}
 use Rattle.build.specs.Kinds.{definedAt}
 use borrow.Author.Needs.{needs}
 use Rattle.build.proofs.define.define.Statement.{statement}

@@ -1,5 +1,5 @@
 -- A bad key, a bad value, or the entry.
-use Rattle.build.specs.Steps.{andThen}
+use Rattle.canon.specs.Answer.{andThen}
 use Rattle.build.specs.Kinds.{mapRow}
 use borrow.Author.Needs.{needs}
 use Rattle.build.proofs.members.map_row.Statement.{statement}

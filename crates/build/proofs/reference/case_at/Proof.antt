@@ -1,5 +1,6 @@
 -- The mark, or what the reference gives.
-use Rattle.build.specs.Steps.{andThen, caseLook}
+use Rattle.canon.specs.Answer.{andThen}
+use Rattle.build.specs.Steps.{caseLook}
 use borrow.Author.Tests.{eq-eqb, ne-eqb}
 use borrow.Author.Needs.{needs}
 use Rattle.build.proofs.reference.case_at.Statement.{statement}

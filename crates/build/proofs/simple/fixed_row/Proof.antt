@@ -4,13 +4,12 @@ use Rattle.canon.specs.Row.{noInner}
 use denote.Ref.{now}
 use Prim.Native.Nat.{_+_}
 use lib.ListN.{getD}
-use Rattle.canon.specs.Answer.{lift}
+use Rattle.canon.specs.Answer.{lift, andThen}
 use Rattle.canon.specs.Flat.{copies}
 use Rattle.flat_types.specs.Lists.{unpacked, packed}
 use Rattle.table.specs.Means.{infoMeans, foundMeans}
 use Rattle.build.specs.Steps.{infoWords, memberLook}
 use Rattle.build.proofs.Wording.{pair-same, flat-same, words-kept, fit-same, then-is}
-use Rattle.build.specs.Steps.{andThen}
 use Rattle.build.specs.Kinds.{fixedRow}
 use mathlib.Core.Path.{refl, sym, ap, _∙_}
 use borrow.Author.Needs.{needs}

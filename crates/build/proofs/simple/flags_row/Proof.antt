@@ -1,7 +1,7 @@
 -- The count is refused, or the row of its layout.
 use mathlib.Core.Bool.{false}
 use mathlib.Core.Option.{some}
-use Rattle.canon.specs.Answer.{is}
+use Rattle.canon.specs.Answer.{is, andThen}
 use Rattle.canon.specs.Flat.{flagsFlat}
 use Rattle.canon.specs.Layout.{both}
 use Rattle.canon.specs.Row.{noInner}
@@ -10,7 +10,6 @@ use Rattle.types.specs.Means.{abiMeans, infoMeans}
 use Rattle.flat_types.specs.Lists.{packed}
 use Rattle.build.specs.Steps.{wordsWith}
 use Rattle.build.proofs.Wording.{flat-same, then-is}
-use Rattle.build.specs.Steps.{andThen}
 use Rattle.build.specs.Kinds.{flagsRow}
 use mathlib.Core.Path.{sym, ap, _∙_}
 use borrow.Author.Needs.{needs}

@@ -1,5 +1,5 @@
 -- A bad reference, or a pair.
-use Rattle.build.specs.Steps.{andThen}
+use Rattle.canon.specs.Answer.{andThen}
 use Rattle.build.specs.Kinds.{listRow}
 use borrow.Author.Needs.{needs}
 use Rattle.build.proofs.simple.list_row.Statement.{statement}

@@ -1,5 +1,6 @@
 -- A bad reference, no payload, or one more.
-use Rattle.build.specs.Steps.{addCase, andThen}
+use Rattle.canon.specs.Answer.{andThen}
+use Rattle.build.specs.Steps.{addCase}
 use borrow.Author.Needs.{needs}
 use Rattle.build.proofs.cases.Payloads.add_case.Statement.{statement}
 use Rattle.build.proofs.cases.Payloads.add_case.Tie as tie

@@ -1,5 +1,5 @@
 -- A scalar of the discriminant's size is a variant without payloads.
-use Rattle.types.specs.States.{andThen}
+use Rattle.canon.specs.Answer.{andThen}
 use Rattle.types.proofs.AnswerLaws.{enum-answer}
 use borrow.Author.Needs.{needs}
 use Rattle.types.proofs.info.CanonicalAbiInfo.enum_.Statement.{statement}

@@ -1,7 +1,8 @@
 -- Each refusal by the test that leads to it.
 use mathlib.Core.Path.{_∙_}
+use Rattle.canon.specs.Answer.{andThen}
 use Rattle.types.specs.Leaves.{given}
-use Rattle.types.specs.States.{andThen, closeCases}
+use Rattle.types.specs.States.{closeCases}
 use borrow.Author.Needs.{needs}
 use Rattle.types.proofs.variant.VariantInfo.new.Statement.{statement}
 use Rattle.types.proofs.variant.VariantInfo.new.Tie as tie

@@ -1,5 +1,6 @@
 -- The two memories call by call.
-use Rattle.types.specs.States.{andThen, sizedCases}
+use Rattle.canon.specs.Answer.{andThen}
+use Rattle.types.specs.States.{sizedCases}
 use borrow.Author.Needs.{needs}
 use Rattle.types.proofs.variant.VariantInfo.sized.Statement.{statement}
 use Rattle.types.proofs.variant.VariantInfo.sized.Tie as tie
