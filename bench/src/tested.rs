@@ -1,0 +1,109 @@
+//! The questions in Rust with the tests that 01 asks for: references and rows are judged, sizes kept
+//! below 4 GiB, nothing is written unless all is accepted. What the port's questions are held to.
+
+/// What the questions read of one row or scalar.
+struct Read {
+    size: u32,
+    align: u32,
+    flat: u32,
+    types: u32,
+}
+
+const SIZES: [u8; 18] = [1, 1, 1, 2, 2, 4, 4, 8, 8, 4, 8, 4, 8, 4, 4, 4, 4, 4];
+const CODES: [u8; 18] = [0, 0, 0, 0, 0, 0, 0, 1, 1, 2, 3, 0, 0, 0, 0, 0, 0, 0];
+
+/// One reference in the 32-bit memory; None if it or its row is bad.
+fn read(reference: u32, table: &[u32], n: u32) -> Option<Read> {
+    if reference < 18 {
+        let k = reference as usize;
+        let string = reference == 12;
+        return Some(Read {
+            size: SIZES[k].into(),
+            align: if string { 4 } else { SIZES[k].into() },
+            flat: if string { 2 } else { 1 },
+            types: CODES[k].into(),
+        });
+    }
+    let index = reference.checked_sub(64).filter(|index| *index < n)? as usize;
+    let row: &[u32; 16] = table.get(16 * index..16 * index + 16)?.try_into().ok()?;
+    let aligned = |size: u32, align: u32| matches!(align, 1 | 2 | 4 | 8) && size & (align - 1) == 0;
+    let flat = row[5];
+    let unused = match flat {
+        0..=15 => !((1 << (2 * flat)) - 1),
+        16 => 0,
+        255 => u32::MAX,
+        _ => return None,
+    };
+    let good = matches!(row[0], 1..=10)
+        && aligned(row[1], row[2])
+        && aligned(row[3], row[4])
+        && (row[6] | row[7]) & unused == 0
+        && matches!(row[8], 0 | 1 | 2 | 4)
+        && row[15] <= 1;
+    good.then(|| Read {
+        size: row[1],
+        align: row[2],
+        flat,
+        types: row[6],
+    })
+}
+
+/// Offsets in the 32-bit memory, staged and copied once all is accepted; size and alignment.
+pub fn placement(table: &[u32], n: u32, references: &[u32], out: &mut [u32]) -> Option<(u32, u32)> {
+    // A short list does not pay for clearing a long stage.
+    match references.len() {
+        0..=64 => placement_staged(table, n, references, out, &mut [0; 64]),
+        _ => placement_staged(table, n, references, out, &mut [0; 16_384]),
+    }
+}
+
+#[inline]
+fn placement_staged(
+    table: &[u32],
+    n: u32,
+    references: &[u32],
+    out: &mut [u32],
+    stage: &mut [u32],
+) -> Option<(u32, u32)> {
+    if references.len() > 16_384 || n > 1_024 || 16 * n as usize > table.len() {
+        return None;
+    }
+    let out = out.get_mut(..references.len())?;
+    let (mut end, mut greatest) = (0_u64, 1);
+    for (place, reference) in references.iter().enumerate() {
+        let member = read(*reference, table, n)?;
+        let start = round_up(end, member.align);
+        end = start + u64::from(member.size);
+        if end > u64::from(u32::MAX) {
+            return None;
+        }
+        stage[place] = start as u32;
+        greatest = greatest.max(member.align);
+    }
+    let size = u32::try_from(round_up(end, greatest)).ok()?;
+    out.copy_from_slice(&stage[..references.len()]);
+    Some((size, greatest))
+}
+
+fn round_up(place: u64, align: u32) -> u64 {
+    let low = u64::from(align - 1);
+    (place + low) & !low
+}
+
+/// The packed types in the 32-bit memory and their count; None where refused, `Some(None)` for memory.
+pub fn flatten(table: &[u32], n: u32, max: u32, references: &[u32]) -> Option<Option<(u64, u32)>> {
+    if references.len() > 16_384 || n > 1_024 || 16 * n as usize > table.len() || max > 16 {
+        return None;
+    }
+    let (mut packed, mut count, mut fits) = (0_u64, 0, true);
+    for reference in references {
+        let part = read(*reference, table, n)?;
+        if fits && part.flat <= max - count {
+            packed |= u64::from(part.types) << (2 * count);
+            count += part.flat;
+        } else {
+            fits = false;
+        }
+    }
+    Some(fits.then_some((packed, count)))
+}

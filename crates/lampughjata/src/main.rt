@@ -1,0 +1,13 @@
+// Reads a description's words from standard input and prints its rows and the build's answer.
+use libc::STDIN_FILENO;
+use libc::STDOUT_FILENO;
+
+fn main() {
+    // One byte more than a description may have, so that a longer one shows.
+    let mut bytes = [0u8; 65537];
+    let count = io::read_full(STDIN_FILENO, &mut bytes);
+    // Room for the longest text.
+    let mut out = [0u8; 78878];
+    let end = text::report(&bytes[..count], &mut out);
+    io::write_all(STDOUT_FILENO, &out[..end]);
+}

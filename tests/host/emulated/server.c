@@ -1,0 +1,208 @@
+/* Makes the port's calls for a comparison that cannot link them: the static library is for x86-64, and
+ * on another processor this program runs under an emulator. It needs no C library.
+ *
+ * On standard input come batches: a u64 with the number of bytes that follow, then requests one after
+ * the other. On standard output goes, for each request in order, the u64 that the call answered and the
+ * lent memory afterwards, guards and all, padded to a multiple of eight. All numbers are little-endian.
+ *
+ * A request is sixteen u32 words: the function (port/call.rs has the numbers), the unit (4 for the call
+ * over words, 1 for its twin over bytes), eight numbers, the bytes of three slices, the bytes of the
+ * lent memory with its guards, where the part begins that the call is lent, and that part's bytes. Then
+ * come the three slices and the lent memory, each padded to a multiple of eight. */
+
+typedef unsigned char u8;
+typedef unsigned int u32;
+typedef unsigned long long u64;
+typedef unsigned long usize;
+
+enum { BATCH = 64 << 20, HEADER = 16 };
+
+static u64 requests[BATCH / 8];
+static u64 answers[BATCH / 8];
+
+/* The calls over numbers. */
+u64 lampughjata_align_to(u32, u32);
+u64 lampughjata_max(u32, u32);
+u64 lampughjata_add_flat(u32, u32);
+u64 lampughjata_max_flat(u32, u32);
+u64 lampughjata_next_field(u32, u32, u32, u32, u32, u32, u32, u32);
+u64 lampughjata_flags(u32, u32);
+u64 lampughjata_enum(u32, u32);
+u64 lampughjata_fixed_length_list(u32, u32, u32, u32, u32, u32, u32);
+u64 lampughjata_discriminant(u32);
+
+/* The calls over lent memory, whose names end in SUFFIX, and a function that makes the one asked for:
+ * x the numbers, s and l the slices and their lengths, o the memory to be written. */
+#define LENT_CALLS(RUN, UNIT, SUFFIX)                                                                   \
+    u64 lampughjata_record##SUFFIX(const UNIT *, usize, u32);                                           \
+    u64 lampughjata_variant##SUFFIX(const UNIT *, usize, u32);                                          \
+    u64 lampughjata_build##SUFFIX(const UNIT *, usize, UNIT *, usize);                                  \
+    u64 lampughjata_type##SUFFIX(const UNIT *, usize, u32, u32, u32);                                   \
+    u64 lampughjata_size_align##SUFFIX(u32, const UNIT *, usize, u32, u32);                             \
+    u64 lampughjata_placement##SUFFIX(u32, const UNIT *, usize, u32, const UNIT *, usize, UNIT *,       \
+                                      usize);                                                           \
+    u64 lampughjata_flatten##SUFFIX(u32, u32, const UNIT *, usize, u32, const UNIT *, usize);           \
+    u64 lampughjata_lowering##SUFFIX(u32, u32, const UNIT *, usize, u32, const UNIT *, usize);          \
+    u64 lampughjata_lifting##SUFFIX(u32, u32, const UNIT *, usize, u32, const UNIT *, usize);           \
+    u64 lampughjata_async_start_params##SUFFIX(u32, u32, u32, const UNIT *, usize, u32, const UNIT *,   \
+                                               usize, const UNIT *, usize);                             \
+    u64 lampughjata_async_start_results##SUFFIX(u32, u32, u32, const UNIT *, usize, u32, const UNIT *,  \
+                                                usize, const UNIT *, usize);                            \
+    u64 lampughjata_async_return_params##SUFFIX(u32, u32, u32, u32, const UNIT *, usize, u32,           \
+                                                const UNIT *, usize, const UNIT *, usize);              \
+    u64 lampughjata_async_return_results##SUFFIX(u32, u32, u32, u32, const UNIT *, usize, u32,          \
+                                                 const UNIT *, usize, const UNIT *, usize);             \
+    u64 lampughjata_contains_borrow##SUFFIX(const UNIT *, usize, u32, const UNIT *, usize);             \
+                                                                                                        \
+    static u64 RUN(u32 function, const u32 *x, const void *const slices[3], const usize bytes[3],       \
+                   void *lent, usize lent_bytes)                                                        \
+    {                                                                                                   \
+        const UNIT *a = slices[0], *b = slices[1], *c = slices[2];                                      \
+        usize la = bytes[0] / sizeof(UNIT), lb = bytes[1] / sizeof(UNIT), lc = bytes[2] / sizeof(UNIT); \
+        UNIT *o = lent;                                                                                 \
+        usize lo = lent_bytes / sizeof(UNIT);                                                           \
+        switch (function) {                                                                             \
+        case 9: return lampughjata_record##SUFFIX(a, la, x[0]);                                         \
+        case 10: return lampughjata_variant##SUFFIX(a, la, x[0]);                                       \
+        case 11: return lampughjata_build##SUFFIX(a, la, o, lo);                                        \
+        case 12: return lampughjata_type##SUFFIX(a, la, x[0], x[1], x[2]);                              \
+        case 13: return lampughjata_size_align##SUFFIX(x[0], a, la, x[1], x[2]);                        \
+        case 14: return lampughjata_placement##SUFFIX(x[0], a, la, x[1], b, lb, o, lo);                 \
+        case 15: return lampughjata_flatten##SUFFIX(x[0], x[1], a, la, x[2], b, lb);                    \
+        case 16: return lampughjata_lowering##SUFFIX(x[0], x[1], a, la, x[2], b, lb);                   \
+        case 17: return lampughjata_lifting##SUFFIX(x[0], x[1], a, la, x[2], b, lb);                    \
+        case 18:                                                                                        \
+            return lampughjata_async_start_params##SUFFIX(x[0], x[1], x[2], a, la, x[3], b, lb, c, lc); \
+        case 19:                                                                                        \
+            return lampughjata_async_start_results##SUFFIX(x[0], x[1], x[2], a, la, x[3], b, lb, c, lc);\
+        case 20:                                                                                        \
+            return lampughjata_async_return_params##SUFFIX(x[0], x[1], x[2], x[3], a, la, x[4], b, lb,  \
+                                                           c, lc);                                      \
+        case 21:                                                                                        \
+            return lampughjata_async_return_results##SUFFIX(x[0], x[1], x[2], x[3], a, la, x[4], b, lb, \
+                                                            c, lc);                                     \
+        case 22: return lampughjata_contains_borrow##SUFFIX(a, la, x[0], b, lb);                        \
+        default: return over_numbers(function, x);                                                      \
+        }                                                                                               \
+    }
+
+static u64 over_numbers(u32 function, const u32 *x)
+{
+    switch (function) {
+    case 0: return lampughjata_align_to(x[0], x[1]);
+    case 1: return lampughjata_max(x[0], x[1]);
+    case 2: return lampughjata_add_flat(x[0], x[1]);
+    case 3: return lampughjata_max_flat(x[0], x[1]);
+    case 4: return lampughjata_next_field(x[0], x[1], x[2], x[3], x[4], x[5], x[6], x[7]);
+    case 5: return lampughjata_flags(x[0], x[1]);
+    case 6: return lampughjata_enum(x[0], x[1]);
+    case 7: return lampughjata_fixed_length_list(x[0], x[1], x[2], x[3], x[4], x[5], x[6]);
+    default: return lampughjata_discriminant(x[0]);
+    }
+}
+
+LENT_CALLS(run_words, u32, )
+LENT_CALLS(run_bytes, u8, _bytes)
+
+static usize padded(usize bytes) { return (bytes + 7) & ~(usize)7; }
+
+/* What the compiled code and the static library may want of a C library. Eight bytes at a time: an
+ * emulator takes a while for each step. */
+void *memcpy(void *to, const void *from, usize bytes)
+{
+    void *start = to;
+    usize eights = bytes / 8, rest = bytes % 8;
+    __asm__ volatile("rep movsq" : "+D"(to), "+S"(from), "+c"(eights) : : "memory");
+    __asm__ volatile("rep movsb" : "+D"(to), "+S"(from), "+c"(rest) : : "memory");
+    return start;
+}
+
+void *memset(void *to, int byte, usize bytes)
+{
+    void *start = to;
+    usize eights = bytes / 8, rest = bytes % 8;
+    u64 fill = 0x0101010101010101ull * (u8)byte;
+    __asm__ volatile("rep stosq" : "+D"(to), "+c"(eights) : "a"(fill) : "memory");
+    __asm__ volatile("rep stosb" : "+D"(to), "+c"(rest) : "a"(fill) : "memory");
+    return start;
+}
+
+void *memmove(void *to, const void *from, usize bytes)
+{
+    if ((usize)to <= (usize)from) return memcpy(to, from, bytes);
+    for (usize k = bytes; k > 0; k--) {
+        ((u8 *)to)[k - 1] = ((const u8 *)from)[k - 1];
+        __asm__ volatile("" : : : "memory");
+    }
+    return to;
+}
+
+/* Linux: read is 0, write is 1, exit is 60. */
+static long system_call(long number, long a, long b, long c)
+{
+    long result;
+    __asm__ volatile("syscall"
+                     : "=a"(result)
+                     : "a"(number), "D"(a), "S"(b), "d"(c)
+                     : "rcx", "r11", "memory");
+    return result;
+}
+
+static void end(int status)
+{
+    system_call(60, status, 0, 0);
+    __builtin_unreachable();
+}
+
+/* Reads or writes all of it; the other side's end is this one's too. */
+static void transfer(long number, void *memory, usize bytes)
+{
+    u8 *at = memory;
+    while (bytes > 0) {
+        long done = system_call(number, number, (long)at, (long)bytes);
+        if (done <= 0) end(done == 0 ? 0 : 1);
+        at += done;
+        bytes -= (usize)done;
+    }
+}
+
+/* Makes the call of one request and appends its answer; the bytes that the request had. */
+static usize answer(const u8 *request, u8 **to)
+{
+    const u32 *header = (const u32 *)request;
+    const void *slices[3];
+    usize bytes[3];
+    usize at = 4 * HEADER;
+    for (int k = 0; k < 3; k++) {
+        slices[k] = request + at;
+        bytes[k] = header[10 + k];
+        at += padded(bytes[k]);
+    }
+    usize whole = padded(header[13]);
+    u64 *answered = (u64 *)*to;
+    u8 *lent = *to + 8;
+    memcpy(lent, request + at, whole);
+    void *part = lent + header[14];
+    *answered = header[1] == 4 ? run_words(header[0], header + 2, slices, bytes, part, header[15])
+                               : run_bytes(header[0], header + 2, slices, bytes, part, header[15]);
+    *to = lent + whole;
+    return at + whole;
+}
+
+void serve(void)
+{
+    for (;;) {
+        u64 length;
+        transfer(0, &length, sizeof length);
+        if (length > BATCH) end(2);
+        transfer(0, requests, length);
+        const u8 *from = (const u8 *)requests;
+        const u8 *stop = from + length;
+        u8 *to = (u8 *)answers;
+        while (from < stop) from += answer(from, &to);
+        transfer(1, answers, (usize)(to - (u8 *)answers));
+    }
+}
+
+/* The stack as the calling convention has it: a multiple of sixteen before the call. */
+__asm__(".globl _start\n_start: xor %ebp, %ebp\n and $-16, %rsp\n call serve\n");

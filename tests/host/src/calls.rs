@@ -1,0 +1,140 @@
+//! The calls of the port's boundary as data, so that port, model and original are asked alike and a
+//! difference can be printed.
+
+/// size32, align32, size64, align64, flat count.
+pub type Info = [u32; 5];
+
+/// A call over numbers or lent infos.
+#[derive(Clone, Debug)]
+pub enum Leaf {
+    AlignTo(u32, u32),
+    Max(u32, u32),
+    AddFlat(u32, u32),
+    MaxFlat(u32, u32),
+    NextField {
+        memory: u32,
+        info: Info,
+        end: u32,
+        k: u32,
+    },
+    Flags(u32, u32),
+    Enum(u32, u32),
+    FixedLengthList {
+        info: Info,
+        count: u32,
+        k: u32,
+    },
+    Discriminant(u32),
+    /// Five words an info.
+    Record {
+        infos: Vec<u32>,
+        k: u32,
+    },
+    /// Six words a case: whether it has a payload, then the info.
+    Variant {
+        cases: Vec<u32>,
+        k: u32,
+    },
+}
+
+/// Which list of a signature is asked for.
+#[derive(Clone, Copy, PartialEq, Eq, Debug)]
+pub enum Part {
+    Params,
+    Results,
+}
+
+pub const PARTS: [Part; 2] = [Part::Params, Part::Results];
+
+/// A question put to a table.
+#[derive(Clone, Debug)]
+pub enum Question {
+    Type {
+        reference: u32,
+        k: u32,
+    },
+    SizeAlign {
+        memory: u32,
+        reference: u32,
+    },
+    Placement {
+        memory: u32,
+        references: Vec<u32>,
+        /// The length of the lent buffer, in words.
+        room: usize,
+    },
+    Flatten {
+        memory: u32,
+        max: u32,
+        references: Vec<u32>,
+    },
+    Lowering {
+        memory: u32,
+        asynchronous: u32,
+        references: Vec<u32>,
+    },
+    Lifting {
+        memory: u32,
+        asynchronous: u32,
+        references: Vec<u32>,
+    },
+    AsyncStart {
+        lower_memory: u32,
+        lower_async: u32,
+        lift_memory: u32,
+        lower: Vec<u32>,
+        lift: Vec<u32>,
+        part: Part,
+    },
+    AsyncReturn {
+        lift_memory: u32,
+        lift_async: u32,
+        lower_memory: u32,
+        lower_async: u32,
+        lift: Vec<u32>,
+        lower: Vec<u32>,
+        part: Part,
+    },
+    ContainsBorrow {
+        references: Vec<u32>,
+    },
+}
+
+impl Question {
+    /// The lists of references in the order of the call's arguments; empty ones where the question
+    /// has fewer than two.
+    pub fn lists(&self) -> [&[u32]; 2] {
+        match self {
+            Question::Type { .. } | Question::SizeAlign { .. } => [&[], &[]],
+            Question::Placement { references, .. }
+            | Question::Flatten { references, .. }
+            | Question::Lowering { references, .. }
+            | Question::Lifting { references, .. }
+            | Question::ContainsBorrow { references } => [references, &[]],
+            Question::AsyncStart { lower, lift, .. } => [lower, lift],
+            Question::AsyncReturn { lift, lower, .. } => [lift, lower],
+        }
+    }
+
+    /// Every reference of the question.
+    pub fn references(&self) -> impl Iterator<Item = u32> {
+        let single = match self {
+            Question::Type { reference, .. } | Question::SizeAlign { reference, .. } => {
+                Some(*reference)
+            }
+            _ => None,
+        };
+        let lists = self.lists();
+        single
+            .into_iter()
+            .chain(lists.into_iter().flatten().copied())
+    }
+
+    /// The length of the buffer that the question lends.
+    pub fn room(&self) -> usize {
+        match self {
+            Question::Placement { room, .. } => *room,
+            _ => 0,
+        }
+    }
+}

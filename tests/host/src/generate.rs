@@ -1,0 +1,183 @@
+//! Random descriptions, references, infos and rows.
+use crate::random::Random;
+
+/// What a random description looks like.
+#[derive(Clone, Copy)]
+pub struct Shape {
+    pub definitions: u64,
+    /// The most members of a record, tuple or variant.
+    pub members: u64,
+    /// Fixed lists whose sizes come near 4 GiB.
+    pub large: bool,
+}
+
+/// A description that is good but for its sizes: kinds, counts and references are all in order.
+pub fn description(random: &mut Random, shape: Shape) -> Vec<u32> {
+    let mut words = Vec::new();
+    for index in 0..shape.definitions {
+        definition(random, shape, index, &mut words);
+    }
+    words
+}
+
+fn definition(random: &mut Random, shape: Shape, index: u64, words: &mut Vec<u32>) {
+    let kind = random.between(1, 10) as u32;
+    words.push(kind);
+    match kind {
+        1 | 4 => {
+            let members = random.below(shape.members + 1);
+            words.push(members as u32);
+            words.extend((0..members).map(|_| reference(random, index)));
+        }
+        2 => {
+            let cases = match random.once_in(60) {
+                true => random.pick(&[255, 256, 257]),
+                false => random.between(1, shape.members.max(1)),
+            };
+            words.push(cases as u32);
+            words.extend((0..cases).map(|_| payload(random, index)));
+        }
+        3 | 8 => words.push(reference(random, index)),
+        5 => words.extend([reference(random, index), reference(random, index)]),
+        6 => words.push(random.below(33) as u32),
+        7 => words.push(cases_of_enum(random)),
+        9 => words.extend([payload(random, index), payload(random, index)]),
+        _ => words.extend([reference(random, index), elements(random, shape.large)]),
+    }
+}
+
+/// A good reference of definition `index`: often a late one, so that types grow deep.
+pub fn reference(random: &mut Random, index: u64) -> u32 {
+    if index == 0 || random.once_in(2) {
+        return random.below(18) as u32;
+    }
+    let back = match random.once_in(2) {
+        true => random.between(1, index.min(3)),
+        false => random.between(1, index),
+    };
+    (64 + index - back) as u32
+}
+
+fn payload(random: &mut Random, index: u64) -> u32 {
+    match random.once_in(4) {
+        true => u32::MAX,
+        false => reference(random, index),
+    }
+}
+
+fn cases_of_enum(random: &mut Random) -> u32 {
+    match random.below(200) {
+        0 => random.pick(&[65_535, 65_536, 65_537]),
+        1 => random.pick(&[100_000, 16_777_216, 16_777_217, u32::MAX]),
+        2..20 => random.pick(&[255, 256, 257]),
+        _ => random.between(1, 40) as u32,
+    }
+}
+
+fn elements(random: &mut Random, large: bool) -> u32 {
+    if large && random.once_in(2) {
+        let parts = random.pick(&[1, 2, 3, 4, 8, 12, 16, 24]);
+        let around = (1_u64 << 32) / parts + random.below(7);
+        return around.saturating_sub(3).min(u32::MAX.into()) as u32;
+    }
+    match random.once_in(20) {
+        true => random.below(1 << 20) as u32,
+        false => random.below(19) as u32,
+    }
+}
+
+/// One word changed, dropped or added.
+pub fn damaged(random: &mut Random, words: &[u32]) -> Vec<u32> {
+    let mut words = words.to_vec();
+    let place = random.below(words.len() as u64 + 1) as usize;
+    match random.below(3) {
+        0 if place < words.len() => words[place] = any_word(random),
+        1 if place < words.len() => {
+            words.remove(place);
+        }
+        _ => words.insert(place, any_word(random)),
+    }
+    words
+}
+
+/// Words near every boundary, and any at all.
+pub fn any_word(random: &mut Random) -> u32 {
+    let edges = [
+        0, 8, 10, 11, 12, 13, 14, 16, 17, 18, 32, 33, 63, 64, 65, 255, 256, 257, 1_087, 1_088,
+        16_382, 16_384, 65_536, 65_537,
+    ];
+    match random.below(6) {
+        0 => random.word(),
+        1 => random.pick(&[u32::MAX, u32::MAX - 1, 1 << 31, (1 << 31) - 1, 1 << 28]),
+        2 => random.pick(&edges),
+        3 => random.between(64, 72) as u32,
+        _ => random.below(20) as u32,
+    }
+}
+
+/// References into a table of n rows, each good but for one in `bad_once_in`.
+pub fn references(random: &mut Random, n: u32, count: u64, bad_once_in: u64) -> Vec<u32> {
+    let mut list = Vec::with_capacity(count as usize);
+    for _ in 0..count {
+        let word = match random.once_in(bad_once_in) {
+            true => any_word(random),
+            false => reference(random, u64::from(n)),
+        };
+        list.push(word);
+    }
+    list
+}
+
+/// An info: most are well formed, some are large, some break a rule.
+pub fn info(random: &mut Random) -> [u32; 5] {
+    let mut info = [0; 5];
+    for memory in 0..2 {
+        let align = random.pick(&[1, 2, 4, 8]);
+        let multiple = match random.below(8) {
+            0 => u32::MAX / align - random.below(4) as u32,
+            1 => random.word() / align,
+            2 => 0,
+            _ => random.below(12) as u32,
+        };
+        info[2 * memory] = align * multiple;
+        info[2 * memory + 1] = align;
+    }
+    info[4] = match random.below(6) {
+        0 => random.pick(&[16, 256, 300, u32::MAX]),
+        _ => random.below(17) as u32,
+    };
+    if random.once_in(25) {
+        let place = random.below(5) as usize;
+        info[place] = random.pick(&[0, 1, 3, 5, 6, 7, 9, 12, 16, 17, 255, 256, u32::MAX]);
+    }
+    info
+}
+
+/// A well-formed row that no build need have written.
+pub fn row(random: &mut Random) -> [u32; 16] {
+    let info = loop {
+        let info = info(random);
+        let aligned = |k: usize| [1, 2, 4, 8].contains(&info[k + 1]) && info[k] % info[k + 1] == 0;
+        if aligned(0) && aligned(2) && (info[4] <= 16 || info[4] > 255) {
+            break info;
+        }
+    };
+    let mut row = [0; 16];
+    row[0] = random.between(1, 10) as u32;
+    row[1..5].copy_from_slice(&info[..4]);
+    row[5] = info[4].min(255);
+    for flat in &mut row[6..8] {
+        let used = match info[4] {
+            0..=15 => (1 << (2 * info[4])) - 1,
+            16 => u32::MAX,
+            _ => 0,
+        };
+        *flat = random.word() & used;
+    }
+    row[8] = random.pick(&[0, 1, 2, 4]);
+    for word in &mut row[9..15] {
+        *word = random.word();
+    }
+    row[15] = random.below(2) as u32;
+    row
+}

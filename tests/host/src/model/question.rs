@@ -1,0 +1,168 @@
+//! 01's questions put to a table.
+use super::layout::{self, Memory, Passes, Type};
+use super::leaf::info_number;
+use super::signature::{self, Side};
+use super::{Answer, MOST_ROWS, MOST_WORDS, ROW, Refused, number, row};
+use crate::calls::{Part, Question};
+use crate::encode;
+
+/// The boundary's u64 of an answer; a placement's offsets go into `out`, of which every other word is
+/// kept.
+pub fn ask(question: &Question, table: &[u32], n: u32, out: &mut [u32]) -> Answer<u64> {
+    let table = Table { words: table, n };
+    match question {
+        Question::Type { reference, k } => {
+            let lists = table.read(&[&[*reference]], None)?;
+            let ty = &lists[0][0];
+            let [flat32, flat64] = row::flat_words(&ty.flat);
+            Ok(match k {
+                0..=4 => info_number(ty, *k),
+                5 => flat32,
+                6 => flat64,
+                _ => u64::from(ty.borrow),
+            })
+        }
+        Question::SizeAlign { memory, reference } => {
+            let lists = table.read(&[&[*reference]], None)?;
+            let layout = lists[0][0].layout_in(Memory::of(*memory));
+            Ok(encode::layout(layout.size, layout.align))
+        }
+        Question::Placement {
+            memory, references, ..
+        } => placement(&table, Memory::of(*memory), references, out),
+        Question::Flatten {
+            memory,
+            max,
+            references,
+        } => {
+            let early = (*max > 16).then_some(number::BAD_COUNT);
+            let lists = table.read(&[references], early)?;
+            let flat = signature::flatten(Memory::of(*memory), *max as usize, &lists[0]);
+            Ok(encode::list_or_memory(flat))
+        }
+        Question::Lowering {
+            memory,
+            asynchronous,
+            references,
+        } => {
+            let lists = table.read(&[references], None)?;
+            let side = Side::of(*memory, *asynchronous);
+            Ok(encode::list_or_memory(signature::lowering(side, &lists[0])))
+        }
+        Question::Lifting {
+            memory,
+            asynchronous,
+            references,
+        } => {
+            let lists = table.read(&[references], None)?;
+            let side = Side::of(*memory, *asynchronous);
+            Ok(encode::list_or_memory(signature::lifting(side, &lists[0])))
+        }
+        Question::AsyncStart {
+            lower_memory,
+            lower_async,
+            lift_memory,
+            lower,
+            lift,
+            part,
+        } => {
+            let lists = table.read(&[lower, lift], None)?;
+            let lower_side = Side::of(*lower_memory, *lower_async);
+            let lift_memory = Memory::of(*lift_memory);
+            let both = signature::async_start(lower_side, &lists[0], lift_memory, &lists[1]);
+            Ok(encode::list(&both[*part as usize]))
+        }
+        Question::AsyncReturn {
+            lift_memory,
+            lift_async,
+            lower_memory,
+            lower_async,
+            lift,
+            lower,
+            part,
+        } => {
+            let lists = table.read(&[lift, lower], None)?;
+            let lift_side = Side::of(*lift_memory, *lift_async);
+            let lower_side = Side::of(*lower_memory, *lower_async);
+            let both = signature::async_return(lift_side, &lists[0], lower_side, &lists[1]);
+            Ok(encode::list(&both[*part as usize]))
+        }
+        Question::ContainsBorrow { references } => {
+            let lists = table.read(&[references], None)?;
+            Ok(u64::from(lists[0].iter().any(|ty| ty.borrow)))
+        }
+    }
+}
+
+/// The two halves of a signature, as the boundary asks for them.
+const _: () = assert!(Part::Params as usize == 0 && Part::Results as usize == 1);
+
+/// "TooLarge names the first member whose start or end passes, 0 if only the size does."
+fn placement(table: &Table, memory: Memory, references: &[u32], out: &mut [u32]) -> Answer<u64> {
+    let early = (out.len() < references.len()).then_some(number::NO_ROOM);
+    let lists = table.read(&[references], early)?;
+    let layouts: Vec<_> = lists[0].iter().map(|ty| ty.layout_in(memory)).collect();
+    let placed = layout::place(&layouts).map_err(|passes| Refused {
+        number: number::TOO_LARGE,
+        at: match passes {
+            Passes::Member(position) => position as u64,
+            Passes::Size => 0,
+        },
+    })?;
+    for (word, start) in out.iter_mut().zip(&placed.starts) {
+        *word = u32::try_from(*start).expect("a start within the limit");
+    }
+    Ok(encode::layout(placed.layout.size, placed.layout.align))
+}
+
+struct Table<'a> {
+    words: &'a [u32],
+    n: u32,
+}
+
+impl Table<'_> {
+    /// The types of the references of one or two lists. "A question tests TooLong, n, maximum,
+    /// NoRoom, then each reference in order (BadRef before BadRow)"; `early` is the refusal for the
+    /// maximum or the room. "Two lists are tested in the order named, TooLong of both first, and
+    /// positions count on from one into the other."
+    fn read(&self, lists: &[&[u32]], early: Option<u64>) -> Answer<Vec<Vec<Type>>> {
+        let refuse = |number| Err(Refused { number, at: 0 });
+        if lists.iter().any(|list| list.len() > MOST_WORDS) {
+            return refuse(number::TOO_LONG);
+        }
+        let rows_wanted = u64::from(self.n);
+        if rows_wanted > MOST_ROWS as u64 || rows_wanted * ROW as u64 > self.words.len() as u64 {
+            return refuse(number::BAD_ROW);
+        }
+        if let Some(number) = early {
+            return refuse(number);
+        }
+        let mut position = 0;
+        let mut types = Vec::new();
+        for list in lists {
+            let mut found = Vec::new();
+            for reference in *list {
+                let ty = self.resolve(*reference).map_err(|number| Refused {
+                    number,
+                    at: position,
+                })?;
+                found.push(ty);
+                position += 1;
+            }
+            types.push(found);
+        }
+        Ok(types)
+    }
+
+    fn resolve(&self, reference: u32) -> Result<Type, u64> {
+        if reference < 64 {
+            return layout::scalar_of(reference).cloned().ok_or(number::BAD_REF);
+        }
+        let index = reference - 64;
+        if index >= self.n {
+            return Err(number::BAD_REF);
+        }
+        let start = ROW * index as usize;
+        row::read(&self.words[start..start + ROW])
+    }
+}

@@ -1,0 +1,105 @@
+//! 01's row of sixteen words: how a type is written into one, and how a lent one is read.
+use super::layout::{Core, FLAT_MAX, Flat, Layout, Type};
+use super::{ROW, number};
+
+pub const NO_FLAT_COUNT: u64 = 255;
+
+/// What a row has beside the type's own numbers; all 0 where the kind has none of it.
+#[derive(Default)]
+pub struct Extra {
+    /// Word 8.
+    pub discriminant: u64,
+    /// Words 9 and 10: payload offset, or a map's value offset.
+    pub offset: [u64; 2],
+    /// Words 11 to 14: a map's entry.
+    pub entry: [u64; 4],
+}
+
+pub fn write(kind: u32, ty: &Type, extra: &Extra) -> [u32; ROW] {
+    let [layout32, layout64] = ty.layout;
+    let mut row = [0; ROW];
+    row[0] = u64::from(kind);
+    row[1] = layout32.size;
+    row[2] = layout32.align;
+    row[3] = layout64.size;
+    row[4] = layout64.align;
+    row[5] = flat_count(&ty.flat).unwrap_or(NO_FLAT_COUNT);
+    [row[6], row[7]] = flat_words(&ty.flat);
+    row[8] = extra.discriminant;
+    row[9..11].copy_from_slice(&extra.offset);
+    row[11..15].copy_from_slice(&extra.entry);
+    row[15] = u64::from(ty.borrow);
+    row.map(|word| u32::try_from(word).expect("a row's numbers fit in words"))
+}
+
+pub fn flat_count(flat: &Flat) -> Option<u64> {
+    flat.as_ref().map(|lists| lists[0].len() as u64)
+}
+
+/// Words 6 and 7: "both words zero if none".
+pub fn flat_words(flat: &Flat) -> [u64; 2] {
+    match flat {
+        Some(lists) => [pack(&lists[0]), pack(&lists[1])],
+        None => [0, 0],
+    }
+}
+
+/// "Two bits each, first lowest, I32 0, I64 1, F32 2, F64 3, unused bits zero."
+pub fn pack(types: &[Core]) -> u64 {
+    let mut packed = 0;
+    for (place, core) in types.iter().enumerate() {
+        packed += (*core as u64) * 4_u64.pow(place as u32);
+    }
+    packed
+}
+
+fn unpack(word: u32, count: u64) -> Vec<Core> {
+    let code = |place: u64| (u64::from(word) / 4_u64.pow(place as u32)) % 4;
+    let core = |code| [Core::I32, Core::I64, Core::F32, Core::F64][code as usize];
+    (0..count).map(|place| core(code(place))).collect()
+}
+
+/// A row's type, or BadRow: "A row is well formed when: kind is 1 to 10; alignments are 1, 2, 4 or
+/// 8; each size is a multiple of its alignment; flat count is 0 to 16 or 255; unused flat bits are
+/// zero; word 8 is 0, 1, 2 or 4; word 15 is 0 or 1. Nothing else in a row is tested."
+pub fn read(row: &[u32]) -> Result<Type, u64> {
+    let flat_count = match u64::from(row[5]) {
+        NO_FLAT_COUNT => None,
+        count => Some(count),
+    };
+    let layouts = layouts([row[1], row[2], row[3], row[4]], flat_count)?;
+    let flat = flat_count.map(|count| [unpack(row[6], count), unpack(row[7], count)]);
+    let well_formed = (1..=10).contains(&row[0])
+        && flat_words(&flat) == [u64::from(row[6]), u64::from(row[7])]
+        && [0, 1, 2, 4].contains(&row[8])
+        && row[15] <= 1;
+    if !well_formed {
+        return Err(number::BAD_ROW);
+    }
+    Ok(Type {
+        layout: layouts,
+        flat,
+        borrow: row[15] == 1,
+    })
+}
+
+pub fn well_formed(row: &[u32]) -> bool {
+    read(row).is_ok()
+}
+
+/// The rules for words 1 to 5, which an info given to a leaf must keep as well. `flat_count` is None
+/// for "none".
+pub fn layouts(words: [u32; 4], flat_count: Option<u64>) -> Result<[Layout; 2], u64> {
+    let layout = |size: u32, align: u32| {
+        let good = [1, 2, 4, 8].contains(&align) && size % align == 0;
+        let (size, align) = (u64::from(size), u64::from(align));
+        good.then_some(Layout { size, align })
+            .ok_or(number::BAD_ROW)
+    };
+    let [size32, align32, size64, align64] = words;
+    let layouts = [layout(size32, align32)?, layout(size64, align64)?];
+    match flat_count {
+        Some(count) if count > FLAT_MAX => Err(number::BAD_ROW),
+        _ => Ok(layouts),
+    }
+}

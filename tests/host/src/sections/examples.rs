@@ -1,0 +1,197 @@
+//! 01's examples, with 01's own numbers written out. What the three say is compared as anywhere; here
+//! the model's answers are held to the paper too.
+use crate::calls::{PARTS, Part, Question};
+use crate::compare::{Built, Run};
+use crate::encode;
+
+const U8: u32 = 2;
+const U16: u32 = 4;
+const U32: u32 = 6;
+const U64: u32 = 8;
+const F32: u32 = 9;
+const F64: u32 = 10;
+const STRING: u32 = 12;
+
+/// Words of a row that an example tells.
+const SIZE_ALIGN: [usize; 4] = [1, 2, 3, 4];
+
+pub fn run(run: &mut Run) {
+    records(run);
+    variants(run);
+    counts(run);
+    large(run);
+    signatures(run);
+    // "The program on words 3 2 1 4 4 4 6 64 8 65 prints, whole".
+    let mut built = accepted(run, &[3, 2, 1, 4, 4, 4, 6, 64, 8, 65], 3);
+    row_is(run, &built, 0, &[0, 1, 2, 3, 4, 5], &[3, 8, 4, 16, 8, 2]);
+    row_is(run, &built, 1, &[0, 1, 2, 3, 4, 5], &[1, 16, 4, 24, 8, 5]);
+    row_is(run, &built, 2, &[0, 1, 2, 3, 4, 5], &[8, 20, 4, 32, 8, 6]);
+    super::questions::every(run, &mut built.subject);
+}
+
+fn records(run: &mut Run) {
+    // P1, P2, P3.
+    let built = accepted(run, &[1, 0], 1);
+    row_is(run, &built, 0, &SIZE_ALIGN, &[0, 1, 0, 1]);
+    row_is(run, &built, 0, &[5], &[0]);
+    let mut built = accepted(run, &[1, 2, U8, U32], 1);
+    row_is(run, &built, 0, &SIZE_ALIGN, &[8, 4, 8, 4]);
+    row_is(run, &built, 0, &[5], &[2]);
+    for memory in [0, 1] {
+        placement_is(run, &mut built, memory, &[U8, U32], &[0, 4], (8, 4));
+    }
+    let mut built = accepted(run, &[1, 3, U8, STRING, U8], 1);
+    row_is(run, &built, 0, &SIZE_ALIGN, &[16, 4, 32, 8]);
+    row_is(run, &built, 0, &[5], &[4]);
+    let members = [U8, STRING, U8];
+    placement_is(run, &mut built, 0, &members, &[0, 4, 12], (16, 4));
+    placement_is(run, &mut built, 1, &members, &[0, 8, 24], (32, 8));
+}
+
+fn variants(run: &mut Run) {
+    // P5: option(U8).
+    let built = accepted(run, &[8, U8], 1);
+    row_is(run, &built, 0, &SIZE_ALIGN, &[2, 1, 2, 1]);
+    row_is(run, &built, 0, &[9, 10], &[1, 1]);
+    // P6: result(U64, String); I32 I64 I32, and I32 I64 I64.
+    let built = accepted(run, &[9, U64, STRING], 1);
+    row_is(run, &built, 0, &SIZE_ALIGN, &[16, 8, 24, 8]);
+    row_is(run, &built, 0, &[9, 10], &[8, 8]);
+    row_is(run, &built, 0, &[5, 6, 7], &[3, 0b00_01_00, 0b01_01_00]);
+    // P7: variant(Float32, U32): I32 I32; variant(Float32, Float64): I32 I64.
+    let built = accepted(run, &[2, 2, F32, U32, 2, 2, F32, F64], 2);
+    row_is(run, &built, 0, &[5, 6, 7], &[2, 0, 0]);
+    row_is(run, &built, 1, &[5, 6, 7], &[2, 0b01_00, 0b01_00]);
+}
+
+fn counts(run: &mut Run) {
+    // P8, P9, P10.
+    for (cases, size) in [(256, 1), (257, 2), (65_536, 2), (65_537, 4)] {
+        let built = accepted(run, &[7, cases], 1);
+        row_is(run, &built, 0, &SIZE_ALIGN, &[size; 4]);
+        row_is(run, &built, 0, &[8], &[size]);
+    }
+    for (labels, size) in [(0, 0), (8, 1), (9, 2), (17, 4)] {
+        let built = accepted(run, &[6, labels], 1);
+        row_is(run, &built, 0, &[1, 3], &[size; 2]);
+    }
+    let built = accepted(run, &[10, U32, 16, 10, U32, 17], 2);
+    row_is(run, &built, 0, &[5], &[16]);
+    row_is(run, &built, 1, &[5], &[255]);
+}
+
+fn large(run: &mut Run) {
+    // P11.
+    let built = accepted(run, &[10, U16, 2_147_483_647], 1);
+    row_is(run, &built, 0, &[1, 2], &[4_294_967_294, 2]);
+    refused(run, &[10, U16, 2_147_483_648], 6, 0);
+    refused(run, &[10, U16, 2_147_483_647, 1, 2, 64, U8], 6, 1);
+    // P12.
+    let built = accepted(run, &[10, U8, 4_294_967_294, 8, 64], 2);
+    row_is(run, &built, 1, &[1, 3], &[u32::MAX; 2]);
+    refused(run, &[10, U8, 4_294_967_295, 8, 64], 6, 1);
+}
+
+fn signatures(run: &mut Run) {
+    // "Async start, five U32, lower async: one pointer; four: I32 four times."
+    let mut built = accepted(run, &[], 0);
+    for (count, list) in [(5, 1), (4, 4)] {
+        let question = Question::AsyncStart {
+            lower_memory: 0,
+            lower_async: 1,
+            lift_memory: 0,
+            lower: vec![U32; count],
+            lift: vec![],
+            part: Part::Params,
+        };
+        answer_is(run, &mut built, &question, encode::flat(list, 0));
+    }
+    // "Async return, lift sync 64, lower async 32, one U32 each: parameters I32 I64, no results."
+    for (part, list) in PARTS.into_iter().zip([encode::flat(2, 0b01_00), 0]) {
+        let question = Question::AsyncReturn {
+            lift_memory: 1,
+            lift_async: 0,
+            lower_memory: 0,
+            lower_async: 1,
+            lift: vec![U32],
+            lower: vec![U32],
+            part,
+        };
+        answer_is(run, &mut built, &question, list);
+    }
+    // "Dropping an empty result record in async return: the list is not empty."
+    let mut built = accepted(run, &[1, 0], 1);
+    let question = Question::AsyncReturn {
+        lift_memory: 1,
+        lift_async: 0,
+        lower_memory: 0,
+        lower_async: 1,
+        lift: vec![],
+        lower: vec![64],
+        part: Part::Params,
+    };
+    answer_is(run, &mut built, &question, encode::flat(1, 1));
+}
+
+fn accepted(run: &mut Run, words: &[u32], n: u64) -> Built {
+    let built = run.description(words);
+    run.tally.consistent(built.answer == n, || {
+        format!(
+            "01's example {words:?} has {n} definitions; the model says {:#x}",
+            built.answer
+        )
+    });
+    built
+}
+
+fn refused(run: &mut Run, words: &[u32], number: u64, index: u64) {
+    let answer = run.description(words).answer;
+    run.tally.consistent(answer == number << 56 | index, || {
+        format!("01's example {words:?} is refused {number} at {index}; the model says {answer:#x}")
+    });
+}
+
+fn row_is(run: &mut Run, built: &Built, row: usize, words: &[usize], numbers: &[u32]) {
+    let table = &built.subject.table;
+    let found: Vec<u32> = words.iter().map(|word| table[16 * row + word]).collect();
+    run.tally.consistent(found == numbers, || {
+        format!("01's example: words {words:?} of row {row} are {numbers:?}, the model's {found:?}")
+    });
+}
+
+fn answer_is(run: &mut Run, built: &mut Built, question: &Question, answer: u64) {
+    run.ask(&mut built.subject, question);
+    let subject = &built.subject;
+    let mut out = vec![0; question.room()];
+    let said = encode::answer(crate::model::ask(
+        question,
+        &subject.table,
+        subject.n,
+        &mut out,
+    ));
+    run.tally.consistent(said == answer, || {
+        format!("01's example {question:?} is {answer:#x}; the model says {said:#x}")
+    });
+}
+
+fn placement_is(
+    run: &mut Run,
+    built: &mut Built,
+    memory: u32,
+    references: &[u32],
+    offsets: &[u32],
+    (size, align): (u64, u64),
+) {
+    let question = Question::Placement {
+        memory,
+        references: references.to_vec(),
+        room: references.len(),
+    };
+    answer_is(run, built, &question, encode::layout(size, align));
+    let mut out = vec![0; offsets.len()];
+    let subject = &built.subject;
+    let _ = crate::model::ask(&question, &subject.table, subject.n, &mut out);
+    run.tally.consistent(out == offsets, || {
+        format!("01's example {question:?} has offsets {offsets:?}; the model says {out:?}")
+    });
+}

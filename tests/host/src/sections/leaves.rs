@@ -1,0 +1,231 @@
+//! The leaves: all flat pairs, rounding around every boundary, every count around its own.
+use crate::calls::{Info, Leaf};
+use crate::compare::Run;
+use crate::generate;
+
+/// Flat counts that the boundary tells apart, and some above.
+const FLAT_COUNTS: [u32; 4] = [257, 300, 65_536, u32::MAX];
+
+pub fn numbers(run: &mut Run) {
+    let flats: Vec<u32> = (0..=256).chain(FLAT_COUNTS).collect();
+    for a in &flats {
+        for b in &flats {
+            run.leaf(&Leaf::AddFlat(*a, *b));
+            run.leaf(&Leaf::MaxFlat(*a, *b));
+        }
+    }
+    let places = places();
+    let alignments: Vec<u32> = (0..=17).chain([32, 64, 255, 1 << 31, u32::MAX]).collect();
+    for place in &places {
+        for align in &alignments {
+            run.leaf(&Leaf::AlignTo(*place, *align));
+        }
+    }
+    for a in places.iter().step_by(7) {
+        for b in places.iter().step_by(11) {
+            run.leaf(&Leaf::Max(*a, *b));
+        }
+    }
+    for _ in 0..run.cases {
+        let (a, b) = (run.random.word(), run.random.word());
+        run.leaf(&Leaf::Max(a, b));
+        run.leaf(&Leaf::Max(a, a));
+        let align = run.random.pick(&[1, 2, 4, 8, b]);
+        run.leaf(&Leaf::AlignTo(a, align));
+    }
+}
+
+/// Small places, and those around each power of two.
+fn places() -> Vec<u32> {
+    let mut places: Vec<u32> = (0..=300).collect();
+    for power in 9..=32 {
+        let middle = 1_u64 << power;
+        places.extend((middle - 20..=middle + 20).filter_map(|p| u32::try_from(p).ok()));
+    }
+    places
+}
+
+pub fn infos(run: &mut Run) {
+    next_fields(run);
+    let words = [
+        0,
+        1,
+        2,
+        3,
+        4,
+        5,
+        6,
+        7,
+        8,
+        9,
+        12,
+        16,
+        17,
+        18,
+        255,
+        256,
+        257,
+        u32::MAX,
+    ];
+    for place in 0..5 {
+        // Every word of an info by itself, against a good one.
+        for word in words {
+            let mut info: Info = [8, 4, 16, 8, 2];
+            info[place] = word;
+            every_leaf_of(run, info);
+        }
+    }
+    for _ in 0..run.cases {
+        let info = generate::info(&mut run.random);
+        every_leaf_of(run, info);
+        let many = run.random.below(8);
+        let mut infos = Vec::new();
+        for _ in 0..many {
+            infos.extend(generate::info(&mut run.random));
+        }
+        record(run, infos);
+        let mut cases = Vec::new();
+        for _ in 0..many {
+            cases.push(run.random.choice());
+            cases.extend(generate::info(&mut run.random));
+        }
+        variant(run, cases);
+    }
+    // Words after the last whole info or case are not read.
+    for extra in 1..6 {
+        record(
+            run,
+            [8, 4, 16, 8, 2]
+                .into_iter()
+                .chain((3..).take(extra))
+                .collect(),
+        );
+        variant(
+            run,
+            [1, 8, 4, 16, 8, 2]
+                .into_iter()
+                .chain((3..).take(extra))
+                .collect(),
+        );
+    }
+    // A slice of infos has no limit of its own.
+    let member = [1, 1, 1, 1, 1];
+    record(run, member.repeat(20_000));
+    for cases in [255, 256, 257, 65_535, 65_536, 65_537] {
+        variant(run, [0, 3, 3, 3, 3, 3].repeat(cases));
+    }
+}
+
+fn next_fields(run: &mut Run) {
+    let ends: Vec<u32> = (0..20).chain(u32::MAX - 40..=u32::MAX).collect();
+    for align in [1, 2, 4, 8] {
+        for size in [0, align, 3 * align, u32::MAX / align * align] {
+            for end in &ends {
+                for memory in [0, 1] {
+                    // The other memory's half is another, so that a mixed-up one shows.
+                    let info = match memory {
+                        0 => [size, align, 24, 8, 3],
+                        _ => [24, 8, size, align, 3],
+                    };
+                    for k in 0..3 {
+                        let end = *end;
+                        run.leaf(&Leaf::NextField {
+                            memory,
+                            info,
+                            end,
+                            k,
+                        });
+                    }
+                }
+            }
+        }
+    }
+}
+
+/// Each leaf that takes one info.
+fn every_leaf_of(run: &mut Run, info: Info) {
+    let memory = run.random.choice();
+    let end = match run.random.once_in(2) {
+        true => run.random.below(64) as u32,
+        false => run.random.word(),
+    };
+    for k in 0..2 {
+        run.leaf(&Leaf::NextField {
+            memory,
+            info,
+            end,
+            k,
+        });
+    }
+    let count = match run.random.below(4) {
+        0 => (u32::MAX / info[0].max(1)).wrapping_add(run.random.below(3) as u32),
+        1 => run.random.word(),
+        _ => run.random.below(20) as u32,
+    };
+    for k in 0..6 {
+        run.leaf(&Leaf::FixedLengthList { info, count, k });
+    }
+    record(run, info.to_vec());
+    variant(run, [1].into_iter().chain(info).collect());
+}
+
+fn record(run: &mut Run, infos: Vec<u32>) {
+    let mut leaf = Leaf::Record { infos, k: 0 };
+    for number in [0, 1, 2, 3, 4, 5, u32::MAX] {
+        if let Leaf::Record { k, .. } = &mut leaf {
+            *k = number;
+        }
+        run.leaf(&leaf);
+    }
+}
+
+fn variant(run: &mut Run, cases: Vec<u32>) {
+    let mut leaf = Leaf::Variant { cases, k: 0 };
+    for number in [0, 1, 2, 3, 4, 5, 6, 7, 8, u32::MAX] {
+        if let Leaf::Variant { k, .. } = &mut leaf {
+            *k = number;
+        }
+        run.leaf(&leaf);
+    }
+}
+
+pub fn counts(run: &mut Run) {
+    let around = |middle: u32| middle - 3..=middle + 3;
+    let mut counts: Vec<u32> = (0..=600).collect();
+    counts.extend(around(65_536));
+    counts.extend(around(1 << 24));
+    counts.extend(around(1 << 31));
+    counts.extend(u32::MAX - 3..=u32::MAX);
+    for count in counts {
+        run.leaf(&Leaf::Discriminant(count));
+        for k in 0..6 {
+            run.leaf(&Leaf::Flags(count, k));
+            run.leaf(&Leaf::Enum(count, k));
+        }
+        run.description(&[6, count]);
+        run.description(&[7, count]);
+    }
+    // Variants of each number of cases, with and without a payload at the last.
+    for cases in (1..=300).chain([16_382]) {
+        for last in [u32::MAX, 2, 8, 12] {
+            let mut words = vec![2, cases];
+            words.extend(std::iter::repeat_n(u32::MAX, cases as usize - 1));
+            words.push(last);
+            run.description(&words);
+        }
+    }
+    // Fixed lists: flat products around 16, sizes around 4 GiB.
+    for element in 0..18 {
+        for count in 0..=20 {
+            run.description(&[10, element, count]);
+        }
+        for size in [1_u64, 2, 4, 8, 16] {
+            let most = (1_u64 << 32) / size;
+            for count in most.saturating_sub(3)..=most + 3 {
+                if let Ok(count) = u32::try_from(count) {
+                    run.description(&[10, element, count]);
+                }
+            }
+        }
+    }
+}

@@ -1,0 +1,27 @@
+//! What is compared, section by section.
+use crate::compare::Run;
+
+mod examples;
+mod leaves;
+mod limits;
+mod questions;
+mod random;
+mod short;
+mod sizes;
+mod tables;
+
+/// A section's name and what it runs.
+pub const SECTIONS: [(&str, fn(&mut Run)); 12] = [
+    ("01's examples", examples::run),
+    ("leaves over numbers", leaves::numbers),
+    ("leaves over infos", leaves::infos),
+    ("counts around each boundary", leaves::counts),
+    ("joins of short flat lists", short::joins),
+    ("short descriptions, all", short::all),
+    ("random and damaged descriptions", random::run),
+    ("sizes around 4 GiB", sizes::run),
+    ("long and deep descriptions", limits::descriptions),
+    ("buffers and byte lengths", limits::buffers),
+    ("limits of questions", limits::questions),
+    ("tables no build wrote", tables::run),
+];

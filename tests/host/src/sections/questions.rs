@@ -1,0 +1,144 @@
+//! Questions put to a table: every kind, both memories, both async settings.
+use crate::calls::{PARTS, Question};
+use crate::compare::{Run, Subject};
+use crate::generate;
+
+/// A few random questions of each kind.
+pub fn some(run: &mut Run, subject: &mut Subject) {
+    let n = subject.n;
+    let reference = generate::references(&mut run.random, n, 1, 8)[0];
+    whole_type(run, subject, reference);
+    for count in [run.random.below(4), run.random.below(20)] {
+        let bad_once_in = run.random.pick(&[20, 1000]);
+        let first = generate::references(&mut run.random, n, count, bad_once_in);
+        let count = run.random.below(6);
+        let second = generate::references(&mut run.random, n, count, bad_once_in);
+        lists(run, subject, &first, &second);
+    }
+}
+
+/// Every question of each definition by itself, and of all of them together.
+pub fn every(run: &mut Run, subject: &mut Subject) {
+    let all: Vec<u32> = (0..subject.n).map(|index| 64 + index).collect();
+    for reference in (0..20).chain(all.clone()).chain([64 + subject.n, u32::MAX]) {
+        whole_type(run, subject, reference);
+        lists(run, subject, &[reference], &[reference]);
+    }
+    lists(run, subject, &all, &all);
+    lists(run, subject, &[], &[]);
+}
+
+/// The eight numbers of one reference, and its size and alignment.
+pub fn whole_type(run: &mut Run, subject: &mut Subject, reference: u32) {
+    for k in 0..9 {
+        run.ask(subject, &Question::Type { reference, k });
+    }
+    for memory in [0, 1] {
+        run.ask(subject, &Question::SizeAlign { memory, reference });
+    }
+}
+
+/// Every question over lists, in both memories and both async settings.
+pub fn lists(run: &mut Run, subject: &mut Subject, first: &[u32], second: &[u32]) {
+    run.ask(
+        subject,
+        &Question::ContainsBorrow {
+            references: first.to_vec(),
+        },
+    );
+    for memory in [0, 1] {
+        placement(run, subject, memory, first);
+        let max = match run.random.once_in(10) {
+            true => run.random.pick(&[16, 17, 18, u32::MAX]),
+            false => run.random.below(17) as u32,
+        };
+        for max in [max, 16] {
+            run.ask(
+                subject,
+                &Question::Flatten {
+                    memory,
+                    max,
+                    references: first.to_vec(),
+                },
+            );
+        }
+        for asynchronous in [0, 1] {
+            let references = || first.to_vec();
+            run.ask(
+                subject,
+                &Question::Lowering {
+                    memory,
+                    asynchronous,
+                    references: references(),
+                },
+            );
+            run.ask(
+                subject,
+                &Question::Lifting {
+                    memory,
+                    asynchronous,
+                    references: references(),
+                },
+            );
+            signatures(run, subject, memory, asynchronous, first, second);
+        }
+    }
+}
+
+/// Both async signatures, this memory and setting on the first list's side; all settings of the other
+/// side over short lists, one of them over long ones.
+fn signatures(
+    run: &mut Run,
+    subject: &mut Subject,
+    memory: u32,
+    asynchronous: u32,
+    first: &[u32],
+    second: &[u32],
+) {
+    let yes = run.random.pick(&[1, 1, 2, 64, u32::MAX]);
+    let mut settings = vec![(0, 0), (0, yes), (yes, 0), (yes, yes)];
+    if first.len() + second.len() > 8 {
+        settings = vec![run.random.pick(&settings)];
+    }
+    for (other_memory, other_async) in settings {
+        for part in PARTS {
+            let start = Question::AsyncStart {
+                lower_memory: memory,
+                lower_async: asynchronous,
+                lift_memory: other_memory,
+                lower: first.to_vec(),
+                lift: second.to_vec(),
+                part,
+            };
+            run.ask(subject, &start);
+            let back = Question::AsyncReturn {
+                lift_memory: memory,
+                lift_async: asynchronous,
+                lower_memory: other_memory,
+                lower_async: other_async,
+                lift: first.to_vec(),
+                lower: second.to_vec(),
+                part,
+            };
+            run.ask(subject, &back);
+        }
+    }
+}
+
+/// A buffer as long as the references, and one a little shorter or longer.
+fn placement(run: &mut Run, subject: &mut Subject, memory: u32, references: &[u32]) {
+    let length = references.len();
+    let other = run
+        .random
+        .pick(&[length.saturating_sub(1), length + 1, length + 3, length / 2]);
+    for room in [length, other] {
+        run.ask(
+            subject,
+            &Question::Placement {
+                memory,
+                references: references.to_vec(),
+                room,
+            },
+        );
+    }
+}

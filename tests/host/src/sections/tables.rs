@@ -1,0 +1,115 @@
+//! Tables that no build wrote, of good form and not.
+use super::questions;
+use crate::calls::Question;
+use crate::compare::Run;
+use crate::generate;
+use crate::model::{MOST_ROWS, ROW};
+
+pub fn run(run: &mut Run) {
+    each_word(run);
+    for _ in 0..run.cases / 4 {
+        let rows = run.random.below(6);
+        let table = rows_of(run, rows);
+        let mut subject = run.forged(table, rows as u32);
+        questions::some(run, &mut subject);
+    }
+    for _ in 0..run.cases / 4 {
+        let rows = run.random.between(1, 4);
+        let mut table = rows_of(run, rows);
+        let place = run.random.below(table.len() as u64) as usize;
+        table[place] = match run.random.once_in(2) {
+            true => generate::any_word(&mut run.random),
+            false => table[place] ^ 1 << run.random.below(32),
+        };
+        let mut subject = run.forged(table, rows as u32);
+        questions::some(run, &mut subject);
+    }
+    numbers_of_rows(run);
+}
+
+fn rows_of(run: &mut Run, rows: u64) -> Vec<u32> {
+    (0..rows)
+        .flat_map(|_| generate::row(&mut run.random))
+        .collect()
+}
+
+/// Every word of a good row changed to each of many values.
+fn each_word(run: &mut Run) {
+    let good: [[u32; 16]; 4] = [
+        [1, 16, 4, 24, 8, 5, 0, 0x15, 0, 0, 0, 0, 0, 0, 0, 1],
+        [9, 16, 8, 24, 8, 3, 4, 20, 1, 8, 8, 0, 0, 0, 0, 0],
+        [
+            10,
+            64,
+            4,
+            64,
+            4,
+            16,
+            0xAAAA_AAAA,
+            u32::MAX,
+            0,
+            0,
+            0,
+            0,
+            0,
+            0,
+            0,
+            0,
+        ],
+        [4, 68, 4, 68, 4, 255, 0, 0, 0, 0, 0, 0, 0, 0, 0, 0],
+    ];
+    let values = (0..=34).chain([63, 64, 127, 128, 255, 256, 257, 511, 1 << 16, 1 << 31]);
+    let values: Vec<u32> = values
+        .chain([u32::MAX - 7, u32::MAX - 1, u32::MAX])
+        .collect();
+    for row in good {
+        for place in 0..ROW {
+            for value in &values {
+                let mut table = row.to_vec();
+                table[place] = *value;
+                let mut subject = run.forged(table, 1);
+                for k in 0..8 {
+                    let reference = 64;
+                    run.ask(&mut subject, &Question::Type { reference, k });
+                }
+                questions::lists(run, &mut subject, &[2, 64], &[64, 18]);
+            }
+        }
+        // Each flat count with each bit of the flat words set by itself.
+        for count in (0..=18).chain([254, 255, 256]) {
+            for bit in 0..32 {
+                for word in [6, 7] {
+                    let mut table = row.to_vec();
+                    (table[5], table[6], table[7]) = (count, 0, 0);
+                    table[word] = 1 << bit;
+                    let mut subject = run.forged(table, 1);
+                    let k = word as u32 - 1;
+                    let reference = 64;
+                    run.ask(&mut subject, &Question::Type { reference, k });
+                }
+            }
+        }
+    }
+}
+
+/// n around every limit: the rows there are, 1,024, and where 16 n passes 32 and 64 bits' halves.
+fn numbers_of_rows(run: &mut Run) {
+    for rows in [0, 1, 2, 5, MOST_ROWS - 1, MOST_ROWS, MOST_ROWS + 1] {
+        let whole = rows_of(run, rows as u64);
+        for length in [whole.len().saturating_sub(1), whole.len(), whole.len() + 1] {
+            let mut table = whole.clone();
+            table.resize(length, 7);
+            let rows = rows as u32;
+            let around = [rows.saturating_sub(1), rows, rows + 1, 1_023, 1_024, 1_025];
+            let huge = [1 << 28, (1 << 28) + 1, 1 << 31, u32::MAX - 1, u32::MAX];
+            for n in around.into_iter().chain(huge) {
+                let mut subject = run.forged(table.clone(), n);
+                for reference in [0, 17, 18, 64, 63 + rows, 64 + rows, u32::MAX] {
+                    questions::whole_type(run, &mut subject, reference);
+                }
+                questions::lists(run, &mut subject, &[2, 63 + rows], &[64]);
+                questions::lists(run, &mut subject, &[], &[]);
+            }
+        }
+    }
+}

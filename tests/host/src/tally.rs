@@ -1,0 +1,139 @@
+//! What was compared and what differed, and the line that says so while a run goes on.
+use std::io::{IsTerminal, Write};
+use std::time::{Duration, Instant};
+
+/// So many differences are printed in full.
+const PRINTED: u64 = 10;
+
+pub struct Tally {
+    /// Answers of the port compared with the model: the u64 of a call and all memory lent to it.
+    pub answers: u64,
+    /// Of these, by a byte call.
+    pub by_bytes: u64,
+    /// Answers and rows of the original that the model was compared with.
+    pub original: u64,
+    /// The same for types that hold an enum or variant of 256 or 65,536 cases, and for discriminants,
+    /// enums and flags asked for by themselves: the oracle has stand-ins there, so they are not
+    /// counted as equal to the Rust.
+    pub apart: u64,
+    /// Where 01 refuses as too large: the original panicked, or gave 4294967295.
+    pub panicked: u64,
+    pub saturated: u64,
+    pub differences: u64,
+    pub section: &'static str,
+    /// The first difference ends the run.
+    stop_at_first: bool,
+    began: Instant,
+    printed: Instant,
+}
+
+/// The payload of the panic that ends a run at its first difference.
+pub struct Caught {
+    pub section: &'static str,
+    pub answers: u64,
+}
+
+impl Tally {
+    pub fn new(stop_at_first: bool) -> Tally {
+        Tally {
+            answers: 0,
+            by_bytes: 0,
+            original: 0,
+            apart: 0,
+            panicked: 0,
+            saturated: 0,
+            differences: 0,
+            section: "",
+            stop_at_first,
+            began: Instant::now(),
+            printed: Instant::now(),
+        }
+    }
+
+    pub fn answer(&mut self, same: bool, by_bytes: bool, report: impl FnOnce() -> String) {
+        self.answers += 1;
+        self.by_bytes += u64::from(by_bytes);
+        self.consistent(same, report);
+        if self.answers % 4096 == 0 {
+            self.progress();
+        }
+    }
+
+    pub fn original(&mut self, same: bool, apart: bool, report: impl FnOnce() -> String) {
+        match apart {
+            true => self.apart += 1,
+            false => self.original += 1,
+        }
+        self.consistent(same, report);
+    }
+
+    pub fn overflow(&mut self, panicked: bool, saturated: bool, report: impl FnOnce() -> String) {
+        self.panicked += u64::from(panicked);
+        self.saturated += u64::from(saturated && !panicked);
+        self.consistent(panicked || saturated, report);
+    }
+
+    /// Something that must hold and is not counted as an answer.
+    pub fn consistent(&mut self, holds: bool, report: impl FnOnce() -> String) {
+        if holds {
+            return;
+        }
+        if self.stop_at_first {
+            std::panic::resume_unwind(Box::new(Caught {
+                section: self.section,
+                answers: self.answers,
+            }));
+        }
+        self.differences += 1;
+        if self.differences <= PRINTED {
+            let report: String = report().chars().take(4000).collect();
+            eprintln!(
+                "\ndifference {} ({}): {report}",
+                self.differences, self.section
+            );
+        }
+    }
+
+    pub fn begin(&mut self, section: &'static str) {
+        self.section = section;
+    }
+
+    /// One line, rewritten on a terminal, else now and then.
+    fn progress(&mut self) {
+        let terminal = std::io::stderr().is_terminal();
+        let pause = Duration::from_millis(if terminal { 200 } else { 10_000 });
+        if self.stop_at_first || self.printed.elapsed() < pause {
+            return;
+        }
+        self.printed = Instant::now();
+        let (start, end) = if terminal {
+            ("\r", "\x1b[K")
+        } else {
+            ("", "\n")
+        };
+        eprint!(
+            "{start}{:>4} s  {:<34} {:>12} answers, {} differences{end}",
+            self.began.elapsed().as_secs(),
+            self.section,
+            self.answers,
+            self.differences
+        );
+        let _ = std::io::stderr().flush();
+    }
+
+    pub fn summary(&self) -> String {
+        format!(
+            "{} answers of the port compared with the model ({} by byte calls), {} of the original \
+             with the model, {} apart (stand-ins), {} refusals 6 where the original panicked and {} \
+             where it saturated, in {} s: {} differences",
+            self.answers,
+            self.by_bytes,
+            self.original,
+            self.apart,
+            self.panicked,
+            self.saturated,
+            self.began.elapsed().as_secs(),
+            self.differences
+        )
+    }
+}
