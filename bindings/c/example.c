@@ -1,0 +1,100 @@
+/* Lays out the record (U8, String, U8), which a component may hand to another, and says as which core
+ * types it travels. ./run compiles this, links the port's static library to it and runs it. */
+#include "lampughjata.h"
+
+#include <stdio.h>
+
+/* Words of a description: scalars and String are themselves, definition j is 64 + j. */
+enum { U8 = 2, STRING = 12, DEFINITION_0 = 64 };
+enum { RECORD = 1 };
+
+/* The two memories, and the two ways to call. */
+enum { MEMORY32 = 0, MEMORY64 = 1 };
+enum { SYNC = 0, ASYNC = 1 };
+
+/* Which number of a type is asked for. */
+enum { SIZE32, ALIGN32, SIZE64, ALIGN64, FLAT_COUNT, FLAT32, FLAT64, BORROW };
+
+enum { ROW = 16 };
+
+/* Takes the refusal out of an answer: nonzero if there was one, and then says so. */
+static int is_refused(const char *call, uint64_t answer)
+{
+    unsigned number = (unsigned)(answer >> 56);
+    if (number != 0) printf("%s: refused with number %u at %u\n", call, number, (unsigned)answer);
+    return number != 0;
+}
+
+static unsigned size_of(uint64_t layout) { return (unsigned)layout; }
+
+static unsigned align_of(uint64_t layout) { return (unsigned)(layout >> 32) & 0xff; }
+
+/* Prints a list of core types: two bits each, the first lowest, and how many in bits 40 to 47. */
+static void print_list(uint64_t list)
+{
+    static const char *const names[] = {"I32", "I64", "F32", "F64"};
+    unsigned count = (unsigned)(list >> 40) & 0xff;
+    printf("(");
+    for (unsigned k = 0; k < count; k++) printf("%s%s", k == 0 ? "" : ", ", names[list >> 2 * k & 3]);
+    printf(")");
+}
+
+/* The type's own numbers, each asked for by itself. */
+static int print_type(const uint32_t *table, size_t words, uint32_t rows)
+{
+    uint64_t number[BORROW + 1];
+    for (uint32_t k = SIZE32; k <= BORROW; k++) {
+        number[k] = lampughjata_type(table, words, rows, DEFINITION_0, k);
+        if (is_refused("type", number[k])) return 1;
+    }
+    printf("type: size %u, alignment %u in a 32-bit memory; size %u, alignment %u in a 64-bit one;",
+           (unsigned)number[SIZE32], (unsigned)number[ALIGN32], (unsigned)number[SIZE64],
+           (unsigned)number[ALIGN64]);
+    printf(" %u core types; %s\n", (unsigned)number[FLAT_COUNT],
+           number[BORROW] ? "with a Borrow" : "no Borrow");
+    return 0;
+}
+
+/* Where the members stand in one memory. */
+static int print_placement(uint32_t memory, const uint32_t *table, size_t words, uint32_t rows)
+{
+    static const uint32_t members[] = {U8, STRING, U8};
+    uint32_t offset[3];
+    uint64_t layout = lampughjata_placement(memory, table, words, rows, members, 3, offset, 3);
+    if (is_refused("placement", layout)) return 1;
+    printf("placement, %s-bit memory: U8 at %u, String at %u, U8 at %u; size %u, alignment %u\n",
+           memory == MEMORY32 ? "32" : "64", (unsigned)offset[0], (unsigned)offset[1],
+           (unsigned)offset[2], size_of(layout), align_of(layout));
+    return 0;
+}
+
+/* The function by which an adapter fetches the arguments of an async call: the caller (lower) has a
+ * 32-bit memory, the called (lift) a 64-bit one, and the record is the only argument. */
+static int print_async_start(const uint32_t *table, size_t words, uint32_t rows)
+{
+    static const uint32_t parameters[] = {DEFINITION_0};
+    uint64_t params = lampughjata_async_start_params(MEMORY32, ASYNC, MEMORY64, table, words, rows,
+                                                     parameters, 1, parameters, 1);
+    uint64_t results = lampughjata_async_start_results(MEMORY32, ASYNC, MEMORY64, table, words, rows,
+                                                       parameters, 1, parameters, 1);
+    if (is_refused("async start", params) || is_refused("async start", results)) return 1;
+    printf("async start: ");
+    print_list(params);
+    printf(" -> ");
+    print_list(results);
+    printf("\n");
+    return 0;
+}
+
+int main(void)
+{
+    static const uint32_t description[] = {RECORD, 3, U8, STRING, U8};
+    uint32_t table[ROW];
+    uint64_t built = lampughjata_build(description, 5, table, ROW);
+    if (is_refused("build", built)) return 1;
+    uint32_t rows = (uint32_t)built;
+    printf("build: %u definition\n", (unsigned)rows);
+
+    return print_type(table, ROW, rows) || print_placement(MEMORY32, table, ROW, rows) ||
+           print_placement(MEMORY64, table, ROW, rows) || print_async_start(table, ROW, rows);
+}

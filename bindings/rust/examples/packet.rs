@@ -1,0 +1,68 @@
+//! The packet that an imager hands to the component that stores it: where its members stand in memory,
+//! and as which core types a call carries it.
+use lampughjata::{Calling, Description, Memory, Reference, Refused, Side, Table};
+
+fn main() -> Result<(), Refused> {
+    // First the types that have definitions of their own.
+    let mut description = Description::new();
+    let pixels = description.list(Reference::U16);
+    let faults = description.flags(3); // overexposed, lens cap on, sensor too warm
+    let checksum = description.option(Reference::U32);
+
+    // Then the packet, whose members may be any type so far.
+    let members = [
+        ("sequence", Reference::U32),
+        ("taken-at", Reference::U64),
+        ("gain", Reference::FLOAT32),
+        ("faults", faults),
+        ("filter", Reference::STRING),
+        ("pixels", pixels),
+        ("checksum", checksum),
+    ];
+    let types = members.map(|(_, reference)| reference);
+    let packet = description.record(&types);
+
+    let table = Table::build(description.words())?;
+
+    // The same record stands differently in the two memories: strings and lists hold pointers.
+    for memory in [Memory::Memory32, Memory::Memory64] {
+        let mut offsets = [0; 7];
+        let layout = table.placement(memory, &types, &mut offsets)?;
+        println!(
+            "{memory:?}: {} bytes, aligned to {}",
+            layout.size, layout.align
+        );
+        for ((name, _), offset) in members.iter().zip(offsets) {
+            println!("{offset:6}  {name}");
+        }
+    }
+
+    // In a call, each member becomes one or more core types.
+    let info = table.type_of(packet)?;
+    match info.flat_types(Memory::Memory32) {
+        Some(types) => println!("a packet travels as {types}"),
+        None => println!("a packet travels through memory"),
+    }
+
+    // The imager, with a 32-bit memory, calls the store, with a 64-bit one: `store(packet) -> bool`.
+    // Both are async, so an adapter between them needs two core functions.
+    let side = |memory, types| Side {
+        memory,
+        calling: Calling::Async,
+        types,
+    };
+    let (imager, store) = (Memory::Memory32, Memory::Memory64);
+    let (parameters, results) = ([packet], [Reference::BOOL]);
+    let start = table.async_start(side(imager, &parameters), side(store, &parameters))?;
+    println!("the call starts through {start}");
+    let end = table.async_return(side(store, &results), side(imager, &results))?;
+    println!("and returns through     {end}");
+
+    // A description from elsewhere may ask for what no memory can hold: the answer says so.
+    let mut description = Description::new();
+    description.fixed_list(Reference::U16, 1 << 31);
+    if let Err(refused) = Table::build(description.words()) {
+        println!("an image of 2147483648 pixels: {refused}");
+    }
+    Ok(())
+}

@@ -1,0 +1,4 @@
+-- Laws that several proofs of this crate cite.
+pub mod Packs
+pub mod Several
+pub mod Unique

@@ -1,0 +1,30 @@
+use Rattle.host.specs.Numbers.{answerNumber, resultsNumber}
+use mathlib.Core.Path.{ap, _∙_}
+use borrow.Author.Needs.{needs}
+use Rattle.host.proofs.signatures.lampughjata_async_return_results.Statement.{statement}
+use Rattle.host.proofs.signatures.lampughjata_async_return_results.Tie as tie
+
+side-at-requires : tie.Need-side-at-requires
+side-at-requires c κs = search needs
+
+side-at-requires-2 : tie.Need-side-at-requires-2
+side-at-requires-2 c κs = search needs
+
+async-return-signature-requires : tie.Need-async-return-signature-requires
+async-return-signature-requires c κs = search needs
+
+results-number-requires : tie.Need-results-number-requires
+results-number-requires c κs = search needs
+
+returns : tie.Need-returns
+returns c = c .results-number .ensures ∙ ap (answerNumber resultsNumber) (rw (c .before .before .before .side-at .ensures, c .before .before .side-at2 .ensures) at (c .before .async-return-signature .ensures))
+
+pub lampughjata-async-return-results-spec : {M : Type 1} → statement M
+lampughjata-async-return-results-spec =
+    tie.close
+    (tie.spec
+    side-at-requires
+    side-at-requires-2
+    async-return-signature-requires
+    results-number-requires
+    returns)

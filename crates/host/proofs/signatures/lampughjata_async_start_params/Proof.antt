@@ -1,0 +1,30 @@
+use Rattle.host.specs.Numbers.{answerNumber, paramsNumber}
+use mathlib.Core.Path.{ap, _∙_}
+use borrow.Author.Needs.{needs}
+use Rattle.host.proofs.signatures.lampughjata_async_start_params.Statement.{statement}
+use Rattle.host.proofs.signatures.lampughjata_async_start_params.Tie as tie
+
+side-at-requires : tie.Need-side-at-requires
+side-at-requires c κs = search needs
+
+side-at-requires-2 : tie.Need-side-at-requires-2
+side-at-requires-2 c κs = search needs
+
+async-start-signature-requires : tie.Need-async-start-signature-requires
+async-start-signature-requires c κs = search needs
+
+params-number-requires : tie.Need-params-number-requires
+params-number-requires c κs = search needs
+
+returns : tie.Need-returns
+returns c = c .params-number .ensures ∙ ap (answerNumber paramsNumber) (rw (c .before .before .before .side-at .ensures, c .before .before .side-at2 .ensures) at (c .before .async-start-signature .ensures))
+
+pub lampughjata-async-start-params-spec : {M : Type 1} → statement M
+lampughjata-async-start-params-spec =
+    tie.close
+    (tie.spec
+    side-at-requires
+    side-at-requires-2
+    async-start-signature-requires
+    params-number-requires
+    returns)

@@ -1,0 +1,63 @@
+// What the numbers that a host passes stand for.
+ghost use mathlib.Core.Path.{_≡_};
+ghost use Rattle.types.specs.Means.{countMeans, abiMeans};
+ghost use Rattle.flat_types.specs.Lists.{memoryOf};
+ghost use Rattle.signature.specs.Means.{sideMeans};
+ghost use Rattle.host.specs.Numbers.{memoryAt, isSet, sideAt, flatAt, abiAt};
+use flat_types::Memory;
+use signature::Side;
+use types::CanonicalAbiInfo;
+use types::FlatCount;
+
+pub(crate) fn memory_at(memory: u32) -> Memory
+    ensures { λ r. ⌜ memoryOf r ≡ memoryAt memory ⌝ }
+{
+    if memory == 0 {
+        Memory::Memory32
+    } else {
+        Memory::Memory64
+    }
+}
+
+fn is_set(x: u32) -> bool
+    ensures { λ r. ⌜ r ≡ isSet x ⌝ }
+{
+    if x == 0 { false } else { true }
+}
+
+pub(crate) fn side_at(memory: u32, async_: u32) -> Side
+    ensures { λ r. ⌜ sideMeans r ≡ sideAt memory «async_» ⌝ }
+{
+    Side {
+        memory: memory_at(memory),
+        async_: is_set(async_),
+    }
+}
+
+pub(crate) fn flat_at(flat: u32) -> FlatCount
+    ensures { λ r. ⌜ countMeans r ≡ flatAt flat ⌝ }
+{
+    if flat <= 255 {
+        FlatCount::Count(flat as u8)
+    } else {
+        FlatCount::None
+    }
+}
+
+pub(crate) fn abi_at(
+    size32: u32,
+    align32: u32,
+    size64: u32,
+    align64: u32,
+    flat: u32,
+) -> CanonicalAbiInfo
+    ensures { λ r. ⌜ abiMeans r ≡ abiAt size32 align32 size64 align64 flat ⌝ }
+{
+    CanonicalAbiInfo {
+        size32,
+        align32,
+        size64,
+        align64,
+        flat_count: flat_at(flat),
+    }
+}

@@ -1,0 +1,82 @@
+// A record and a variant of infos, over words.
+ghost use mathlib.Core.Path.{_≡_};
+ghost use Prim.Native.Nat.{_+_, _≤_};
+ghost use lib.ListN.{length};
+ghost use Rattle.types.specs.Leaves.{recordAnswer, variantAnswer};
+ghost use Rattle.types.specs.Means.{abiMeans, infoMeans, variantMeans};
+ghost use Rattle.types.specs.States.{casesMeans, addCase};
+ghost use Rattle.host.specs.Infos.{infoAt, caseAt, infosOf, casesOf};
+ghost use Rattle.host.specs.Numbers.{leafNumber, chosen, abiWords, variantWords};
+use crate::given::abi_at;
+use crate::packing::abi_number;
+use crate::packing::variant_number;
+use types::CanonicalAbiInfo;
+use types::InfoAnswer;
+use types::RecordState;
+use types::VariantAnswer;
+use types::VariantInfo;
+use types::VariantState;
+
+fn info_at(words: &[u32], at: usize) -> CanonicalAbiInfo
+    requires { ⌜ at + 5 ≤ length (now words) ⌝ }
+    ensures { λ r. ⌜ abiMeans r ≡ infoAt (now (words .entry)) at ⌝ }
+{
+    abi_at(
+        words[at],
+        words[at + 1],
+        words[at + 2],
+        words[at + 3],
+        words[at + 4],
+    )
+}
+
+fn record_of(infos: &[u32]) -> InfoAnswer
+    ensures { λ r. ⌜ infoMeans r ≡ recordAnswer (infosOf (now (infos .entry))) ⌝ }
+{
+    let n = infos.len() / 5;
+    let mut state = RecordState::start();
+    let mut j: usize = 0;
+    while j < n {
+        state = state.field(info_at(infos, 5 * j));
+        j += 1;
+    }
+    CanonicalAbiInfo::record(state)
+}
+
+#[no_mangle]
+pub extern "C" fn lampughjata_record(infos: &[u32], k: u32) -> u64
+    ensures { λ r. ⌜ r ≡ leafNumber (λ a. chosen k (abiWords a)) (recordAnswer (infosOf (now (infos .entry)))) ⌝ }
+{
+    abi_number(record_of(infos), k)
+}
+
+fn add_case(state: VariantState, words: &[u32], at: usize) -> VariantState
+    requires { ⌜ at + 6 ≤ length (now words) ⌝ }
+    ensures { λ r. ⌜ casesMeans r ≡ addCase (casesMeans state) (caseAt (now (words .entry)) at) ⌝ }
+{
+    if words[at] == 0 {
+        state.bare()
+    } else {
+        state.payload(info_at(words, at + 1))
+    }
+}
+
+fn variant_of(cases: &[u32]) -> VariantAnswer
+    ensures { λ r. ⌜ variantMeans r ≡ variantAnswer (casesOf (now (cases .entry))) ⌝ }
+{
+    let n = cases.len() / 6;
+    let mut state = VariantState::start();
+    let mut j: usize = 0;
+    while j < n {
+        state = add_case(state, cases, 6 * j);
+        j += 1;
+    }
+    VariantInfo::new(state)
+}
+
+#[no_mangle]
+pub extern "C" fn lampughjata_variant(cases: &[u32], k: u32) -> u64
+    ensures { λ r. ⌜ r ≡ leafNumber (λ v. chosen k (variantWords v)) (variantAnswer (casesOf (now (cases .entry)))) ⌝ }
+{
+    variant_number(variant_of(cases), k)
+}

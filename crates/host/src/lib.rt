@@ -1,0 +1,31 @@
+// The boundary: each call takes numbers and slices, and answers one 64-bit number.
+mod given;
+mod infos;
+mod leaves;
+mod packing;
+mod signatures;
+mod tables;
+
+pub use infos::lampughjata_record;
+pub use infos::lampughjata_variant;
+pub use leaves::lampughjata_add_flat;
+pub use leaves::lampughjata_align_to;
+pub use leaves::lampughjata_discriminant;
+pub use leaves::lampughjata_enum;
+pub use leaves::lampughjata_fixed_length_list;
+pub use leaves::lampughjata_flags;
+pub use leaves::lampughjata_max;
+pub use leaves::lampughjata_max_flat;
+pub use leaves::lampughjata_next_field;
+pub use signatures::lampughjata_async_return_params;
+pub use signatures::lampughjata_async_return_results;
+pub use signatures::lampughjata_async_start_params;
+pub use signatures::lampughjata_async_start_results;
+pub use signatures::lampughjata_contains_borrow;
+pub use signatures::lampughjata_flatten;
+pub use signatures::lampughjata_lifting;
+pub use signatures::lampughjata_lowering;
+pub use tables::lampughjata_build;
+pub use tables::lampughjata_placement;
+pub use tables::lampughjata_size_align;
+pub use tables::lampughjata_type;

@@ -1,0 +1,261 @@
+// Each answer as one number.
+ghost use mathlib.Core.Path.{_≡_};
+ghost use Prim.Native.Nat.{_<_};
+ghost use lib.ListN.{length};
+ghost use Rattle.canon.specs.Row.{countOf, borrowWord};
+ghost use Rattle.types.specs.Means.{numberOf, bytesOf, roundedMeans, countMeans, discriminantMeans, abiMeans, infoMeans as abiAnswerMeans, variantMeans, nextMeans};
+ghost use Rattle.flat_types.specs.Lists.{words};
+ghost use Rattle.table.specs.Means.{infoMeans};
+ghost use Rattle.build.specs.Means.{builtMeans};
+ghost use Rattle.questions.specs.Means.{typeMeans, answerMeans as layoutAnswerMeans};
+ghost use Rattle.signature.specs.Means.{flattenedMeans, borrowMeans, answerMeans as signatureAnswerMeans};
+ghost use Rattle.host.specs.Numbers.{refusalNumber, answerNumber, leafNumber, itself, flatNumber, chosen, abiWords, variantWords, fieldWords, typeWords, layoutNumber, listNumber, flattenedNumber, paramsNumber, resultsNumber};
+use build::Built;
+use flat_types::FlatList;
+use questions::LayoutAnswer;
+use questions::TypeAnswer;
+use signature::BorrowAnswer;
+use signature::Flattened;
+use signature::SignatureAnswer;
+use table::Info;
+use types::CanonicalAbiInfo;
+use types::DiscriminantAnswer;
+use types::FlatCount;
+use types::InfoAnswer;
+use types::NextField;
+use types::Refusal;
+use types::Rounded;
+use types::VariantAnswer;
+use types::VariantInfo;
+
+// The lowest bit of the top byte.
+const TOP: u64 = 72057594037927936;
+
+pub(crate) fn wide(x: u32) -> u64
+    ensures { λ r. ⌜ r ≡ x ⌝ }
+{
+    x as u64
+}
+
+pub(crate) fn refused(why: Refusal, at: u32) -> u64
+    ensures { λ r. ⌜ r ≡ refusalNumber (numberOf why) at ⌝ }
+{
+    let number = why.number() as u64;
+    TOP * number + at as u64
+}
+
+// The number k of these, the last for any k above.
+pub(crate) fn choose(words: &[u32], k: u32) -> u64
+    requires { ⌜ 0 < length (now words) ⌝ }
+    ensures { λ r. ⌜ r ≡ chosen k (now (words .entry)) ⌝ }
+{
+    let at = k as usize;
+    if at < words.len() {
+        return wide(words[at]);
+    }
+    let last = words.len() - 1;
+    wide(words[last])
+}
+
+pub(crate) fn rounded_number(answer: Rounded) -> u64
+    ensures { λ r. ⌜ r ≡ leafNumber itself (roundedMeans answer) ⌝ }
+{
+    match answer {
+        Rounded::Value(value) => wide(value),
+        Rounded::Refused(why) => refused(why, 0),
+    }
+}
+
+pub(crate) fn flat_number(count: FlatCount) -> u32
+    ensures { λ r. ⌜ r ≡ flatNumber (countMeans count) ⌝ }
+{
+    match count {
+        FlatCount::Count(n) => n as u32,
+        FlatCount::None => 256,
+    }
+}
+
+pub(crate) fn discriminant_number(answer: DiscriminantAnswer) -> u64
+    ensures { λ r. ⌜ r ≡ leafNumber itself (discriminantMeans answer) ⌝ }
+{
+    match answer {
+        DiscriminantAnswer::Size(size) => wide(size.byte_size()),
+        DiscriminantAnswer::Refused(why) => refused(why, 0),
+    }
+}
+
+fn abi_words(info: CanonicalAbiInfo) -> [u32; 5]
+    ensures { λ r. ⌜ r ≡ abiWords (abiMeans info) ⌝ }
+{
+    let flat = info.flat_count;
+    [
+        info.size32,
+        info.align32,
+        info.size64,
+        info.align64,
+        flat_number(flat),
+    ]
+}
+
+pub(crate) fn abi_number(answer: InfoAnswer, k: u32) -> u64
+    ensures { λ r. ⌜ r ≡ leafNumber (λ a. chosen k (abiWords a)) (abiAnswerMeans answer) ⌝ }
+{
+    match answer {
+        InfoAnswer::Info(info) => {
+            let words = abi_words(info);
+            choose(&words, k)
+        }
+        InfoAnswer::Refused(why) => refused(why, 0),
+    }
+}
+
+fn variant_words(variant: VariantInfo, info: CanonicalAbiInfo) -> [u32; 8]
+    ensures { λ r. ⌜ r ≡ variantWords (record { disc = bytesOf (variant .size); offsets = record { in32 = variant .«payload_offset32»; in64 = variant .«payload_offset64» }; abi = abiMeans info }) ⌝ }
+{
+    let size = variant.size;
+    let flat = info.flat_count;
+    [
+        info.size32,
+        info.align32,
+        info.size64,
+        info.align64,
+        flat_number(flat),
+        size.byte_size(),
+        variant.payload_offset32,
+        variant.payload_offset64,
+    ]
+}
+
+pub(crate) fn variant_number(answer: VariantAnswer, k: u32) -> u64
+    ensures { λ r. ⌜ r ≡ leafNumber (λ v. chosen k (variantWords v)) (variantMeans answer) ⌝ }
+{
+    match answer {
+        VariantAnswer::Variant(variant, info) => {
+            let words = variant_words(variant, info);
+            choose(&words, k)
+        }
+        VariantAnswer::Refused(why) => refused(why, 0),
+    }
+}
+
+pub(crate) fn field_number(answer: NextField, k: u32) -> u64
+    ensures { λ r. ⌜ r ≡ leafNumber (λ f. chosen k (fieldWords f)) (nextMeans answer) ⌝ }
+{
+    match answer {
+        NextField::At { offset, end } => {
+            let words = [offset, end];
+            choose(&words, k)
+        }
+        NextField::Refused(why) => refused(why, 0),
+    }
+}
+
+pub(crate) fn built_number(answer: Built) -> u64
+    ensures { λ r. ⌜ r ≡ answerNumber itself (builtMeans answer) ⌝ }
+{
+    match answer {
+        Built::Rows(n) => wide(n),
+        Built::Refused(why, index) => refused(why, index.0),
+    }
+}
+
+fn flat_word(count: u32) -> u32
+    ensures { λ r. ⌜ r ≡ flatNumber (countOf count) ⌝ }
+{
+    if count == 255 { 256 } else { count }
+}
+
+fn bit(b: bool) -> u32
+    ensures { λ r. ⌜ r ≡ borrowWord b ⌝ }
+{
+    if b { 1 } else { 0 }
+}
+
+fn type_words(info: Info) -> [u32; 8]
+    ensures { λ r. ⌜ r ≡ typeWords (infoMeans info) ⌝ }
+{
+    [
+        info.in32.size,
+        info.in32.align,
+        info.in64.size,
+        info.in64.align,
+        flat_word(info.flat.count),
+        info.flat.memory32,
+        info.flat.memory64,
+        bit(info.borrow),
+    ]
+}
+
+pub(crate) fn type_number(answer: TypeAnswer, k: u32) -> u64
+    ensures { λ r. ⌜ r ≡ answerNumber (λ i. chosen k (typeWords i)) (typeMeans answer) ⌝ }
+{
+    match answer {
+        TypeAnswer::Info(info) => {
+            let words = type_words(info);
+            choose(&words, k)
+        }
+        TypeAnswer::Refused(why, position) => refused(why, position.0),
+    }
+}
+
+pub(crate) fn layout_number(answer: LayoutAnswer) -> u64
+    ensures { λ r. ⌜ r ≡ answerNumber layoutNumber (layoutAnswerMeans answer) ⌝ }
+{
+    match answer {
+        LayoutAnswer::Layout(layout) => {
+            let align = layout.align % 256;
+            4294967296 * wide(align) + wide(layout.size)
+        }
+        LayoutAnswer::Refused(why, position) => refused(why, position.0),
+    }
+}
+
+fn list_number(list: FlatList) -> u64
+    ensures { λ r. ⌜ r ≡ listNumber (words list) ⌝ }
+{
+    let count = list.count % 256;
+    1099511627776 * wide(count) + list.types % 17179869184
+}
+
+pub(crate) fn flattened_number(answer: Flattened) -> u64
+    ensures { λ r. ⌜ r ≡ answerNumber flattenedNumber (flattenedMeans answer) ⌝ }
+{
+    match answer {
+        Flattened::List(list) => list_number(list),
+        Flattened::Memory => 36028797018963968,
+        Flattened::Refused(why, position) => refused(why, position.0),
+    }
+}
+
+pub(crate) fn params_number(answer: SignatureAnswer) -> u64
+    ensures { λ r. ⌜ r ≡ answerNumber paramsNumber (signatureAnswerMeans answer) ⌝ }
+{
+    match answer {
+        SignatureAnswer::Signature(signature) => {
+            let params = signature.params;
+            list_number(params)
+        }
+        SignatureAnswer::Refused(why, position) => refused(why, position.0),
+    }
+}
+
+pub(crate) fn results_number(answer: SignatureAnswer) -> u64
+    ensures { λ r. ⌜ r ≡ answerNumber resultsNumber (signatureAnswerMeans answer) ⌝ }
+{
+    match answer {
+        SignatureAnswer::Signature(signature) => {
+            let results = signature.results;
+            list_number(results)
+        }
+        SignatureAnswer::Refused(why, position) => refused(why, position.0),
+    }
+}
+
+pub(crate) fn borrow_number(answer: BorrowAnswer) -> u64
+    ensures { λ r. ⌜ r ≡ answerNumber borrowWord (borrowMeans answer) ⌝ }
+{
+    match answer {
+        BorrowAnswer::Reached(b) => wide(bit(b)),
+        BorrowAnswer::Refused(why, position) => refused(why, position.0),
+    }
+}
