@@ -59,6 +59,36 @@ uint64_t lampughjata_async_return_results(uint32_t lift_memory, uint32_t lift_as
 uint64_t lampughjata_contains_borrow(const uint32_t *t, size_t t_len, uint32_t n, const uint32_t *references,
     size_t references_len);
 
+/* The same over little-endian bytes */
+uint64_t lampughjata_record_bytes(const uint8_t *infos, size_t infos_len, uint32_t k);
+uint64_t lampughjata_variant_bytes(const uint8_t *cases, size_t cases_len, uint32_t k);
+uint64_t lampughjata_build_bytes(const uint8_t *words, size_t words_len, uint8_t *table, size_t table_len);
+uint64_t lampughjata_type_bytes(const uint8_t *t, size_t t_len, uint32_t n, uint32_t reference, uint32_t k);
+uint64_t lampughjata_size_align_bytes(uint32_t memory, const uint8_t *t, size_t t_len, uint32_t n,
+    uint32_t reference);
+uint64_t lampughjata_placement_bytes(uint32_t memory, const uint8_t *t, size_t t_len, uint32_t n,
+    const uint8_t *references, size_t references_len, uint8_t *out, size_t out_len);
+uint64_t lampughjata_flatten_bytes(uint32_t memory, uint32_t max, const uint8_t *t, size_t t_len, uint32_t n,
+    const uint8_t *references, size_t references_len);
+uint64_t lampughjata_lowering_bytes(uint32_t memory, uint32_t async, const uint8_t *t, size_t t_len,
+    uint32_t n, const uint8_t *references, size_t references_len);
+uint64_t lampughjata_lifting_bytes(uint32_t memory, uint32_t async, const uint8_t *t, size_t t_len,
+    uint32_t n, const uint8_t *references, size_t references_len);
+uint64_t lampughjata_async_start_params_bytes(uint32_t lower_memory, uint32_t lower_async,
+    uint32_t lift_memory, const uint8_t *t, size_t t_len, uint32_t n, const uint8_t *lower, size_t lower_len,
+    const uint8_t *lift, size_t lift_len);
+uint64_t lampughjata_async_start_results_bytes(uint32_t lower_memory, uint32_t lower_async,
+    uint32_t lift_memory, const uint8_t *t, size_t t_len, uint32_t n, const uint8_t *lower, size_t lower_len,
+    const uint8_t *lift, size_t lift_len);
+uint64_t lampughjata_async_return_params_bytes(uint32_t lift_memory, uint32_t lift_async,
+    uint32_t lower_memory, uint32_t lower_async, const uint8_t *t, size_t t_len, uint32_t n,
+    const uint8_t *lift, size_t lift_len, const uint8_t *lower, size_t lower_len);
+uint64_t lampughjata_async_return_results_bytes(uint32_t lift_memory, uint32_t lift_async,
+    uint32_t lower_memory, uint32_t lower_async, const uint8_t *t, size_t t_len, uint32_t n,
+    const uint8_t *lift, size_t lift_len, const uint8_t *lower, size_t lower_len);
+uint64_t lampughjata_contains_borrow_bytes(const uint8_t *t, size_t t_len, uint32_t n,
+    const uint8_t *references, size_t references_len);
+
 #ifdef __cplusplus
 }
 #endif

@@ -27,6 +27,20 @@ use Rattle.host.proofs.signatures.lampughjata_async_start_results.Reads
 use Rattle.host.proofs.signatures.lampughjata_async_return_params.Reads as async-return-params
 use Rattle.host.proofs.signatures.lampughjata_async_return_results.Reads as async-return-results
 use Rattle.host.proofs.signatures.lampughjata_contains_borrow.Reads as contains-borrow
+use Rattle.host.proofs.infos_bytes.lampughjata_record_bytes.Reads as record-bytes
+use Rattle.host.proofs.infos_bytes.lampughjata_variant_bytes.Reads as variant-bytes
+use Rattle.host.proofs.table_bytes.lampughjata_build_bytes.Reads as build-bytes
+use Rattle.host.proofs.table_bytes.lampughjata_type_bytes.Reads as type-bytes
+use Rattle.host.proofs.table_bytes.lampughjata_size_align_bytes.Reads as size-align-bytes
+use Rattle.host.proofs.table_bytes.lampughjata_placement_bytes.Reads as placement-bytes
+use Rattle.host.proofs.signature_bytes.lampughjata_flatten_bytes.Reads as flatten-bytes
+use Rattle.host.proofs.signature_bytes.lampughjata_lowering_bytes.Reads as lowering-bytes
+use Rattle.host.proofs.signature_bytes.lampughjata_lifting_bytes.Reads as lifting-bytes
+use Rattle.host.proofs.signature_bytes.lampughjata_async_start_params_bytes.Reads as async-start-params-bytes
+use Rattle.host.proofs.signature_bytes.lampughjata_async_start_results_bytes.Reads as async-start-results-bytes
+use Rattle.host.proofs.signature_bytes.lampughjata_async_return_params_bytes.Reads as async-return-params-bytes
+use Rattle.host.proofs.signature_bytes.lampughjata_async_return_results_bytes.Reads as async-return-results-bytes
+use Rattle.host.proofs.signature_bytes.lampughjata_contains_borrow_bytes.Reads as contains-borrow-bytes
 
 -- what is not written is at exit what it was
 abbrev Single : {A R : Type 0} → (A → R → A → Type 0) → Type 0
@@ -108,3 +122,53 @@ async-return-results-one κs a r q g h = g ∙ sym h
 
 pub contains-borrow-one : (κs : Lfts 2) → Single (contains-borrow.Post κs)
 contains-borrow-one κs a r q g h = g ∙ sym h
+
+pub record-bytes-one : (κs : Lfts 1) → Single (record-bytes.Post κs)
+record-bytes-one κs a r q g h = g ∙ sym h
+
+pub variant-bytes-one : (κs : Lfts 1) → Single (variant-bytes.Post κs)
+variant-bytes-one κs a r q g h = g ∙ sym h
+
+pub build-bytes-one :
+    (κs : Lfts 2) (x0 x1 : RefT (List ℕ)) (r q : ℕ) (l k : List ℕ) →
+    build-bytes.Post κs (x0, (x1, tt)) r (x0, (at-last x1 l, tt)) →
+    build-bytes.Post κs (x0, (x1, tt)) q (x0, (at-last x1 k, tt)) →
+    (r ≡ q) × (l ≡ k)
+build-bytes-one κs x0 x1 r q l k g h = (g .0 ∙ sym (h .0), g .1 ∙ sym (h .1))
+
+pub type-bytes-one : (κs : Lfts 1) → Single (type-bytes.Post κs)
+type-bytes-one κs a r q g h = g ∙ sym h
+
+pub size-align-bytes-one : (κs : Lfts 1) → Single (size-align-bytes.Post κs)
+size-align-bytes-one κs a r q g h = g ∙ sym h
+
+pub placement-bytes-one :
+    (κs : Lfts 3) (x0 : ℕ) (x1 : RefT (List ℕ)) (x2 : ℕ) (x3 x4 : RefT (List ℕ)) (r q : ℕ) (l k : List ℕ) →
+    placement-bytes.Post κs (x0, (x1, (x2, (x3, (x4, tt))))) r (x0, (x1, (x2, (x3, (at-last x4 l, tt))))) →
+    placement-bytes.Post κs (x0, (x1, (x2, (x3, (x4, tt))))) q (x0, (x1, (x2, (x3, (at-last x4 k, tt))))) →
+    (r ≡ q) × (l ≡ k)
+placement-bytes-one κs x0 x1 x2 x3 x4 r q l k g h = (g .0 ∙ sym (h .0), g .1 ∙ sym (h .1))
+
+pub flatten-bytes-one : (κs : Lfts 2) → Single (flatten-bytes.Post κs)
+flatten-bytes-one κs a r q g h = g ∙ sym h
+
+pub lowering-bytes-one : (κs : Lfts 2) → Single (lowering-bytes.Post κs)
+lowering-bytes-one κs a r q g h = g ∙ sym h
+
+pub lifting-bytes-one : (κs : Lfts 2) → Single (lifting-bytes.Post κs)
+lifting-bytes-one κs a r q g h = g ∙ sym h
+
+pub async-start-params-bytes-one : (κs : Lfts 3) → Single (async-start-params-bytes.Post κs)
+async-start-params-bytes-one κs a r q g h = g ∙ sym h
+
+pub async-start-results-bytes-one : (κs : Lfts 3) → Single (async-start-results-bytes.Post κs)
+async-start-results-bytes-one κs a r q g h = g ∙ sym h
+
+pub async-return-params-bytes-one : (κs : Lfts 3) → Single (async-return-params-bytes.Post κs)
+async-return-params-bytes-one κs a r q g h = g ∙ sym h
+
+pub async-return-results-bytes-one : (κs : Lfts 3) → Single (async-return-results-bytes.Post κs)
+async-return-results-bytes-one κs a r q g h = g ∙ sym h
+
+pub contains-borrow-bytes-one : (κs : Lfts 2) → Single (contains-borrow-bytes.Post κs)
+contains-borrow-bytes-one κs a r q g h = g ∙ sym h
