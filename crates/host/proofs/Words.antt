@@ -27,7 +27,7 @@ length-words b j (suc n) = ap suc (length-words b (suc j) n)
 
 -- what stands at a place among them
 word-of : (b : List ℕ) (j n i : ℕ) → i < n → getD (wordsFrom b j n) i 0 ≡ wordAt b (j + i)
-unfolding wordsFrom getD
+unfolding wordsFrom
 word-of b j (suc n) zero h = ap (wordAt b) (sym (add-zero j))
 word-of b j (suc n) (suc i) h = word-of b (suc j) n i (omega (arith, h)) ∙ ap (wordAt b) (suc-add j i ∙ sym (add-suc j i))
 
