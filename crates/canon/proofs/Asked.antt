@@ -115,6 +115,14 @@ infos-aligned m t n p (w ∷ ws) is′ e =
     let r = first-ok p (read t n w) (infos (read t n) (suc p) ws) is′ e in
     rw (r .4) (read-aligned m t n w (r .0) (r .2), infos-aligned m t n (suc p) ws (r .1) (r .3))
 
+-- as many infos as references
+pub infos-length : (look : ℕ → Leaf Info) (p : ℕ) (ws : List ℕ) (is′ : List Info) → infos look p ws ≡ ok is′ → length is′ ≡ length ws
+unfolding infos
+infos-length look p [] is′ e = let q : [] ≡ is′ = cc in rw (← q)
+infos-length look p (w ∷ ws) is′ e =
+    let r = first-ok p (look w) (infos look (suc p) ws) is′ e in
+    rw (r .4) (ap suc (infos-length look (suc p) ws (r .1) (r .3)))
+
 -- A placement question that passes every earlier check, and reads these infos
 pub record Reads (t : List ℕ) (n : ℕ) (ws : List ℕ) (room : ℕ) (is′ : List Info) : Type 0 where
   pub few : tooMany ws ≡ false

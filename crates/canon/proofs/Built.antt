@@ -142,7 +142,7 @@ built-sound ws t = go (capacity (length t)) (ltb mostWords (length ws))
 
 -- The rows read back
 
-every-sixteen : (ts : List Ty) → Every (λ r. length r ≡ 16) (map rowOf ts)
+pub every-sixteen : (ts : List Ty) → Every (λ r. length r ≡ 16) (map rowOf ts)
 unfolding rowOf
 every-sixteen [] = tt
 every-sixteen (t ∷ ts) = (refl, every-sixteen ts)

@@ -15,3 +15,4 @@ pub mod Rows
 pub mod Built
 pub mod Asked
 pub mod Stopped
+pub mod Capped

@@ -1,0 +1,257 @@
+-- A table, a buffer or a list that is longer than any call can use answers as its first words do: no row and no offset stands beyond the word
+-- 16,384, and one reference more than 16,384 is too many already.
+use mathlib.Core.Path.{_≡_, refl, sym, ap, ap₂, _∙_, fun-ext}
+use mathlib.Core.Bool.{Bool, true, false, cond, _||_}
+use mathlib.Core.List.{List, [], _∷_, _++_, map, append-assoc}
+use mathlib.Core.Option.{Option, none, some}
+use Prim.Native.Nat.{ℕ, zero, suc, _+_, _*_, _-_, _≤_, _<_, min}
+use native.Mathlib.Decide.{decLe}
+use native.Mathlib.Omega.{arith}
+use lib.Dec.{leb, ltb}
+use lib.ListN.{length, take, drop, set, getElem?, length-set, length-take, length-map, take-append-drop}
+use lib.Seq.{take-all, getD-take, set-append-left}
+use borrow.Author.Tests.{ltb-true, ltb-false, lt-ltb, le-ltb}
+use Rattle.canon.specs.Answer.{Leaf, no as refuses, Answer, ok, refused, atPosition, then, unless, tooLong, badRef, badCount, noRoom, badRow}
+use Rattle.canon.specs.Layout.{Memory, within, Layout, starts, recordLayout}
+use Rattle.canon.specs.Placement.{Every}
+use Rattle.canon.specs.Row.{Info, rowOf}
+use Rattle.canon.specs.Table.{capacity, place, cell, cellsFrom, rowAt, putFrom, putRows}
+use Rattle.canon.specs.Description.{plain, mostWords, built, buildAnswer, tableAfter}
+use Rattle.canon.specs.Question.{
+  plainInfo,
+  readRow,
+  read,
+  infos,
+  tooMany,
+  noTable,
+  ask,
+  askTwo,
+  typeAnswer,
+  sizeAlignAnswer,
+  layoutsIn,
+  Placing,
+  refusedAt,
+  judged,
+  placed,
+  placing,
+  placementAnswer,
+  written,
+  offsetsAfter,
+}
+use Rattle.canon.proofs.Tests.{impossible}
+use Rattle.canon.proofs.Cells.{place-fits, room-fits, length-putFrom}
+use Rattle.canon.proofs.Built.{every-sixteen, built-sound}
+use Rattle.canon.proofs.Asked.{infos-length}
+
+-- Tests
+
+-- a capped number is below what is at most the cap exactly when the number itself is
+below-first : (c a b : ℕ) → b ≤ c → ltb (min c a) b ≡ ltb a b
+below-first c a b h =
+    elim (decLe b a) [
+      | yes l ↦ le-ltb (min c a) b (omega arith) ∙ sym (le-ltb a b l)
+      | no l ↦ lt-ltb (min c a) b (omega arith) ∙ sym (lt-ltb a b (omega arith))
+    ]
+
+-- two answers behind one test agree where they agree when it is passed
+behind : {A : Type 0} (b : Bool) (x : ℕ) {u v : Answer A} → (b ≡ false → u ≡ v) → unless b x u ≡ unless b x v
+unfolding unless
+behind true x h = refl
+behind false x h = h refl
+
+neither : (a b : Bool) → a || b ≡ false → (a ≡ false) × (b ≡ false)
+neither true b h = impossible (cc)
+neither false b h = (refl, h)
+
+-- Rows
+
+room-first : (t : List ℕ) → capacity (length (take 16384 t)) ≡ capacity (length t)
+unfolding capacity
+room-first t = rw (length-take 16384 t) (omega arith)
+
+pub table-first : (t : List ℕ) (n : ℕ) → noTable (take 16384 t) n ≡ noTable t n
+unfolding noTable
+table-first t n =
+    elim (decLe n 1024) [
+      | yes l ↦ rw (length-take 16384 t, below-first 16384 (length t) (16 * n) (omega arith))
+      | no l ↦ rw (lt-ltb 1024 n (omega arith))
+    ]
+
+cells-first : (t : List ℕ) (row k n : ℕ) → row < 1024 → k + n ≤ 16 → cellsFrom 1024 (take 16384 t) row k n ≡ cellsFrom 1024 t row k n
+unfolding cellsFrom cell
+cells-first t row k zero r h = refl
+cells-first t row k (suc n) r h =
+    ap₂ _∷_ (getD-take 16384 t (place 1024 row k) 0 (place-fits 1024 row k 16384 r (omega arith) (omega arith))) (cells-first t row (suc k) n r (omega arith))
+
+row-first : (t : List ℕ) (row : ℕ) → row < 1024 → rowAt (take 16384 t) row ≡ rowAt t row
+row-first t row h =
+    elim (decLe (length t) 16384) [
+      | yes l ↦ ap (λ (u : List ℕ). rowAt u row) (take-all 16384 t l)
+      | no l ↦ let full : capacity (length t) ≡ 1024 = unfold capacity in omega arith in rw (room-first t, full) (cells-first t row 0 16 h (omega arith))
+    ]
+
+pub read-first : (t : List ℕ) (n : ℕ) → n ≤ 1024 → read (take 16384 t) n ≡ read t n
+unfolding read
+read-first t n h = fun-ext (λ w. ap (λ (l : Leaf Info). cond (leb 64 w) l (plainInfo (getElem? plain w))) (row w (ltb (w - 64) n) refl))
+  where
+    row : (w : ℕ) (b : Bool) → ltb (w - 64) n ≡ b → cond b (readRow (rowAt (take 16384 t) (w - 64))) (refuses badRef) ≡ cond b (readRow (rowAt t (w - 64))) (refuses badRef)
+    row w true e = ap readRow (row-first t (w - 64) (omega (arith, ltb-true (w - 64) n e)))
+    row w false e = refl
+
+-- whatever is asked of a table behind its test
+asked-first :
+    {A : Type 0} (t : List ℕ) (n : ℕ) (f : (ℕ → Leaf Info) → Answer A) →
+    unless (noTable (take 16384 t) n) badRow (f (read (take 16384 t) n)) ≡ unless (noTable t n) badRow (f (read t n))
+unfolding noTable
+asked-first t n f =
+    rw (table-first t n)
+    (behind (noTable t n) badRow (λ e. ap f (read-first t n (ltb-false 1024 n (neither (ltb 1024 n) (ltb (length t) (16 * n)) e .0)))))
+
+-- Questions
+
+pub type-first : (t : List ℕ) (n w : ℕ) → typeAnswer (take 16384 t) n w ≡ typeAnswer t n w
+unfolding typeAnswer
+type-first t n w = asked-first t n (λ look. atPosition 0 (look w))
+
+pub size-align-first : (m : Memory) (t : List ℕ) (n w : ℕ) → sizeAlignAnswer m (take 16384 t) n w ≡ sizeAlignAnswer m t n w
+unfolding sizeAlignAnswer
+size-align-first m t n w = rw (type-first t n w)
+
+many-first : (ws : List ℕ) → tooMany (take 16385 ws) ≡ tooMany ws
+many-first ws =
+    elim (decLe (length ws) 16384) [
+      | yes l ↦ rw (take-all 16385 ws (omega arith))
+      | no l ↦ rw (length-take 16385 ws) (lt-ltb mostWords (min 16385 (length ws)) (omega arith) ∙ sym (lt-ltb mostWords (length ws) (omega arith)))
+    ]
+
+few-length : (ws : List ℕ) → tooMany ws ≡ false → length ws ≤ 16384
+few-length ws h = ltb-false mostWords (length ws) h
+
+list-first : (ws : List ℕ) → tooMany ws ≡ false → take 16385 ws ≡ ws
+list-first ws h = take-all 16385 ws (omega (arith, few-length ws h))
+
+-- the room of a buffer is asked for after the length of the list
+ask-room :
+    {A : Type 0} (t : List ℕ) (n : ℕ) (b s s′ : Bool) (ws : List ℕ) (k : List Info → Answer A) → (tooMany ws ≡ false → s ≡ s′) →
+    ask (take 16384 t) n b s (take 16385 ws) k ≡ ask t n b s′ ws k
+unfolding ask
+ask-room t n b s s′ ws k h =
+    rw (many-first ws)
+    (behind (tooMany ws) tooLong
+    (λ few. rw (h few, list-first ws few) (asked-first t n (λ look. unless b badCount (unless s′ noRoom (then (infos look 0 ws) k))))))
+
+pub ask-first :
+    {A : Type 0} (t : List ℕ) (n : ℕ) (b s : Bool) (ws : List ℕ) (k : List Info → Answer A) →
+    ask (take 16384 t) n b s (take 16385 ws) k ≡ ask t n b s ws k
+ask-first t n b s ws k = ask-room t n b s s ws k (λ few. refl)
+
+pub askTwo-first :
+    {A : Type 0} (t : List ℕ) (n : ℕ) (vs ws : List ℕ) (k : List Info → List Info → Answer A) →
+    askTwo (take 16384 t) n (take 16385 vs) (take 16385 ws) k ≡ askTwo t n vs ws k
+unfolding askTwo
+askTwo-first t n vs ws k =
+    rw (many-first vs, many-first ws)
+    (behind (tooMany vs || tooMany ws) tooLong
+    (λ few.
+    let both = neither (tooMany vs) (tooMany ws) few in
+    rw (list-first vs (both .0), list-first ws (both .1))
+    (asked-first t n (λ look. then (infos look 0 vs) (λ is′. then (infos look (length vs) ws) (λ js. k is′ js))))))
+
+-- A build
+
+pub build-first : (ws t : List ℕ) → buildAnswer ws (take 16384 t) ≡ buildAnswer ws t
+unfolding buildAnswer
+build-first ws t = rw (room-first t)
+
+-- stores into the front of a buffer leave what is behind it
+
+put-front :
+    (room row k : ℕ) (ws t u : List ℕ) → row < room → 16 * room ≤ length t → k + length ws ≤ 16 →
+    putFrom room row k ws t ++ u ≡ putFrom room row k ws (t ++ u)
+unfolding putFrom
+put-front room row k [] t u r fits h = refl
+put-front room row k (w ∷ ws) t u r fits h =
+    put-front room row (suc k) ws (set t (place room row k) w) u r (rw (length-set t (place room row k) w) fits) (omega arith)
+    ∙ ap (putFrom room row (suc k) ws) (sym (set-append-left t u (place room row k) w (place-fits room row k (length t) r (omega arith) fits)))
+
+rows-front :
+    (room i : ℕ) (rs : List (List ℕ)) (t u : List ℕ) → Every (λ r. length r ≡ 16) rs → i + length rs ≤ room → 16 * room ≤ length t →
+    putRows room i rs t ++ u ≡ putRows room i rs (t ++ u)
+unfolding putRows
+rows-front room i [] t u full h fits = refl
+rows-front room i (r ∷ rs) t u full h fits =
+    rows-front room (suc i) rs (putFrom room i 0 r t) u (full .1) (omega arith) (rw (length-putFrom room i 0 r t) fits)
+    ∙ ap (putRows room (suc i) rs) (put-front room i 0 r t u (omega arith) fits (omega (arith, full .0)))
+
+pub table-after-first : (ws t : List ℕ) → tableAfter ws (take 16384 t) ++ drop 16384 t ≡ tableAfter ws t
+unfolding tableAfter
+table-after-first ws t =
+    let types = built ws t .types in
+    let fits = rw (room-first t) at (room-fits (length (take 16384 t)) .1) in
+    rw (room-first t)
+    (rows-front (capacity (length t)) 0 (map rowOf types) (take 16384 t) (drop 16384 t) (every-sixteen types) (omega (arith, length-map types rowOf, built-sound ws t .fits)) fits
+    ∙ ap (putRows (capacity (length t)) 0 (map rowOf types)) (take-append-drop 16384 t))
+
+-- A placement
+
+placing-first : (m : Memory) (t : List ℕ) (n : ℕ) (ws : List ℕ) (room : ℕ) → placing m (take 16384 t) n (take 16385 ws) (min 16384 room) ≡ placing m t n ws room
+unfolding placing
+placing-first m t n ws room =
+    ask-room t n false (ltb (min 16384 room) (length (take 16385 ws))) (ltb room (length ws)) ws (λ is′. placed (layoutsIn m is′))
+    (λ few. rw (list-first ws few) (below-first 16384 room (length ws) (few-length ws few)))
+
+pub placement-first :
+    (m : Memory) (t : List ℕ) (n : ℕ) (ws : List ℕ) (room : ℕ) →
+    placementAnswer m (take 16384 t) n (take 16385 ws) (min 16384 room) ≡ placementAnswer m t n ws room
+unfolding placementAnswer
+placement-first m t n ws room = rw (placing-first m t n ws room)
+
+-- as many offsets as references
+
+starts-length : (e : ℕ) (fs : List Layout) → length (starts e fs) ≡ length fs
+unfolding starts
+starts-length e [] = refl
+starts-length e (f ∷ fs) = ap suc (starts-length _ fs)
+
+placed-length : (fs : List Layout) (p : Placing) → placed fs ≡ ok p → length (p .offsets) ≡ length fs
+unfolding placed judged
+placed-length fs p e = go (refusedAt fs) e
+  where
+    go : (o : Option ℕ) → judged o (record { layout = recordLayout fs; offsets = starts 0 fs }) ≡ ok p → length (p .offsets) ≡ length fs
+    go none e = let q : record { layout = recordLayout fs; offsets = starts 0 fs } ≡ p = cc in ap (λ (x : Placing). length (x .offsets)) (sym q) ∙ starts-length 0 fs
+    go (some i) e = impossible (cc)
+
+few-offsets : (m : Memory) (t : List ℕ) (n : ℕ) (ws : List ℕ) (room : ℕ) (p : Placing) → placing m t n ws room ≡ ok p → length (p .offsets) ≤ 16384
+unfolding placing ask unless then
+few-offsets m t n ws room p = go (tooMany ws) refl (noTable t n) (ltb room (length ws)) (infos (read t n) 0 ws) refl
+  where
+    go :
+        (many : Bool) → tooMany ws ≡ many → (missing short : Bool) (a : Answer (List Info)) → infos (read t n) 0 ws ≡ a →
+        unless many tooLong (unless missing badRow (unless short noRoom (then a (λ is′. placed (layoutsIn m is′))))) ≡ ok p → length (p .offsets) ≤ 16384
+    go true few missing short a f e = impossible (cc)
+    go false few true short a f e = impossible (cc)
+    go false few false true a f e = impossible (cc)
+    go false few false false (refused x q) f e = impossible (cc)
+    go false few false false (ok is′) f e =
+        omega (arith, few-length ws few, placed-length (layoutsIn m is′) p e, length-map is′ (λ (i : Info). within m (i .abi .layouts)), infos-length (read t n) 0 ws is′ f)
+
+behind-first : {A : Type 0} (n c : ℕ) (l : List A) → n ≤ c → drop n (take c l) ++ drop c l ≡ drop n l
+behind-first zero c l h = take-append-drop c l
+behind-first (suc n) zero l h = absurd (omega arith)
+behind-first (suc n) (suc c) [] h = refl
+behind-first (suc n) (suc c) (x ∷ l) h = behind-first n c l (omega arith)
+
+written-first : (a : Answer Placing) (out : List ℕ) → ((p : Placing) → a ≡ ok p → length (p .offsets) ≤ 16384) → written a (take 16384 out) ++ drop 16384 out ≡ written a out
+unfolding written
+written-first (ok p) out few =
+    append-assoc (p .offsets) (drop (length (p .offsets)) (take 16384 out)) (drop 16384 out)
+    ∙ ap (λ (l : List ℕ). p .offsets ++ l) (behind-first (length (p .offsets)) 16384 out (few p refl))
+written-first (refused x i) out few = take-append-drop 16384 out
+
+pub offsets-first :
+    (m : Memory) (t : List ℕ) (n : ℕ) (ws out : List ℕ) →
+    offsetsAfter m (take 16384 t) n (take 16385 ws) (take 16384 out) ++ drop 16384 out ≡ offsetsAfter m t n ws out
+unfolding offsetsAfter
+offsets-first m t n ws out =
+    rw (length-take 16384 out, placing-first m t n ws (length out))
+    (written-first (placing m t n ws (length out)) out (few-offsets m t n ws (length out)))
