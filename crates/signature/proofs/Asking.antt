@@ -1,12 +1,12 @@
 -- One list and two lists read by `gather` are those of canon's questions.
 use mathlib.Core.Path.{_≡_, refl, ap}
 use mathlib.Core.Bool.{Bool, true, false, _||_}
-use mathlib.Core.List.{List, [], _∷_}
+use mathlib.Core.List.{List}
 use mathlib.Core.Option.{Option}
-use Prim.Native.Nat.{ℕ, suc, _≤_}
+use Prim.Native.Nat.{ℕ, _≤_}
 use lib.ListN.{length}
 use borrow.Author.Tests.{le-ltb}
-use Rattle.canon.specs.Answer.{Leaf, is, no, Answer, ok, refused, atPosition, then, unless, tooLong, badRow}
+use Rattle.canon.specs.Answer.{Answer, ok, refused, then, unless, tooLong, badRow}
 use Rattle.canon.specs.Layout.{Memory}
 use Rattle.canon.specs.Flat.{Core}
 use Rattle.canon.specs.Pack.{Packed}
@@ -14,6 +14,7 @@ use Rattle.canon.specs.Row.{Info}
 use Rattle.canon.specs.Signature.{flatAll, atMost, flattenAnswer, Signature}
 use Rattle.canon.specs.Question.{read, infos, tooMany, noTable, ask, askTwo, someBorrow, borrowAnswer}
 use Rattle.canon.proofs.Tests.{impossible}
+use Rattle.canon.proofs.Asked.{infos-length}
 use Rattle.questions.specs.Gathers.{Together, together, gatherAnswer}
 use Rattle.flat_types.specs.Lists.{packed}
 use Rattle.signature.specs.Packs.{packedFlat, packedFlattened, PackedSignature, packedSignature, packedAnswer, Lists, lists, bothLists}
@@ -52,19 +53,6 @@ borrow-gathered m t n ws = go (tooMany ws) (noTable t n) (infos (read t n) 0 ws)
     go false true a = refl
     go false false (ok is′) = refl
     go false false (refused x p) = refl
-
--- as many infos as references
-pub infos-length : (look : ℕ → Leaf Info) (p : ℕ) (ws : List ℕ) (js : List Info) → infos look p ws ≡ ok js → length js ≡ length ws
-unfolding infos then atPosition
-infos-length look p [] js e = let f : [] ≡ js = cc in rw (← f)
-infos-length look p (w ∷ ws) js e = go (look w) (infos look (suc p) ws) e (infos-length look (suc p) ws)
-  where
-    go :
-        (l : Leaf Info) (a : Answer (List Info)) → then (atPosition p l) (λ i. then a (λ is′. ok (i ∷ is′))) ≡ ok js →
-        ((ks : List Info) → a ≡ ok ks → length ks ≡ length ws) → length js ≡ suc (length ws)
-    go (no x) a e h = impossible (cc)
-    go (is i) (refused x q) e h = impossible (cc)
-    go (is i) (ok ks) e h = let f : i ∷ ks ≡ js = cc in rw (← f) (ap suc (h ks refl))
 
 -- Two lists: positions count on
 
