@@ -1,0 +1,2 @@
+-- Lent bytes as words.
+pub mod Words
