@@ -9,6 +9,7 @@ use build::Built;
 use build::build;
 use libc::STDIN_FILENO;
 use libc::STDOUT_FILENO;
+use words::words_of;
 
 enum Compared {
     Same,
@@ -149,7 +150,7 @@ fn main() {
     let mut bytes = [0u8; 65536];
     let count = io::read_full(STDIN_FILENO, &mut bytes);
     let mut words = [0u32; 16384];
-    let whole = text::words_of(&bytes[..count], &mut words);
+    let whole = words_of(&bytes[..count], &mut words);
     let tally = replay(&words[..whole]);
     io::print_decimal(STDOUT_FILENO, tally.compared as u64);
     io::write_all(STDOUT_FILENO, b" compared\n");

@@ -9,7 +9,7 @@ use Rattle.canon.specs.Borrow.{borrows}
 use Rattle.canon.specs.Pack.{pack}
 use Rattle.canon.specs.Row.{rowOf}
 use Rattle.canon.specs.Description.{reference, caseOf, membersOf, casesOf, kindOf, typeOf, isTooLarge, fitted, bodied, buildFrom, build}
-use Rattle.text.specs.Words.{wordAt, wordsOf, wholeWords}
+use Rattle.words.specs.Words.{wordAt, wordsOf, wholeWords}
 use Rattle.text.specs.Text.{digits, spaced, spacedAll, flatText, rowLine, rowLines, endLine, described, printed}
 
 -- 3 2 1 4 4 4 6 64 8 65

@@ -1,4 +1,3 @@
-pub mod Decoding
 pub mod Writing
 pub mod Rows
 pub mod Telling

@@ -11,18 +11,17 @@ use lib.ListN.{length, getD, take, drop, length-map}
 use lib.Seq.{take-suc, take-all, length-take-le}
 use Rattle.canon.specs.Answer.{Answer, refused}
 use Rattle.canon.specs.Description.{build, answered, built, buildAnswer, tableAfter}
-use Rattle.canon.specs.Placement.{Every}
 use Rattle.canon.specs.Row.{rowOf}
 use Rattle.canon.specs.Table.{capacity, putRows}
 use Rattle.canon.specs.Types.{Ty}
-use Rattle.canon.proofs.Built.{built-sound}
+use Rattle.canon.proofs.Built.{every-sixteen, built-sound}
 use Rattle.canon.proofs.Cells.{room-fits, length-putRows, row-at}
 use Rattle.table.specs.Rows.{rowIn}
 use Rattle.table.proofs.Reading.{row-there}
+use Rattle.words.specs.Words.{wholeWords}
+use Rattle.words.proofs.Laws.{length-whole, front-read}
 use Rattle.text.specs.Text.{rowLine, rowLines, endLine, told, described, printed, mostBytes, shown}
 use Rattle.text.specs.Told.{tableLines, rowsOf}
-use Rattle.text.specs.Words.{wordsOf}
-use Rattle.text.proofs.Decoding.{front-is}
 
 lines-snoc : (i : ℕ) (rs : List (List ℕ)) (r : List ℕ) → rowLines i rs ++ rowLine (i + length rs) r ≡ rowLines i (rs ++ r ∷ [])
 unfolding rowLines
@@ -48,11 +47,6 @@ lines-are rs u (suc n) h same =
 pub lines-turn : (u : List ℕ) (n : ℕ) → tableLines u n ++ rowLine n (rowIn u n) ≡ tableLines u (n + 1)
 unfolding tableLines
 lines-turn u n = rw (add-one n)
-
-every-sixteen : (ts : List Ty) → Every (λ r. length r ≡ 16) (map rowOf ts)
-unfolding rowOf
-every-sixteen [] = tt
-every-sixteen (t ∷ ts) = (refl, every-sixteen ts)
 
 module _ (ws t : List ℕ) where
   abbrev types : List Ty
@@ -106,11 +100,11 @@ module _ (b : List ℕ) where
 
   pub printed-words :
       (w u : List ℕ) (n : ℕ) → length w ≡ 16384 → length b ≤ 65536 → length b % 4 ≡ 0 →
-      n ≡ min (length b / 4) (length w) → u ≡ wordsOf b 0 n ++ drop n w →
+      n ≡ min (length b / 4) (length w) → u ≡ take n (wholeWords b) ++ drop n w →
       described (take n u) ≡ printed b
   unfolding printed
   printed-words w u n l h z e f =
-      rw (le-ltb 65536 (length b) h, eq-eqb (length b % 4) 0 z) (ap described (front-is b w u n (omega arith) e f))
+      rw (le-ltb 65536 (length b) h, eq-eqb (length b % 4) 0 z) (ap described (front-read b w u n e f ∙ take-all (length w) (wholeWords b) (omega (arith, length-whole b))))
 
   pub shown-none : (room : ℕ) → room < mostBytes → [] ≡ shown room b
   unfolding shown

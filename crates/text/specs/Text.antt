@@ -7,7 +7,7 @@ use lib.ListN.{length, set}
 use Rattle.canon.specs.Answer.{Answer, ok, refused, tooLong, truncated}
 use Rattle.canon.specs.Description.{Built, build, answered}
 use Rattle.canon.specs.Row.{rowOf, word}
-use Rattle.text.specs.Words.{wholeWords}
+use Rattle.words.specs.Words.{wholeWords}
 
 -- the decimal digits of n, the most significant first and no zero in front; at most k of them
 unfoldable pub digits : ℕ → ℕ → List ℕ

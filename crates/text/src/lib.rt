@@ -1,8 +1,6 @@
-// A description's bytes as words, and the text that tells what a build made of them.
+// The text that tells what a build made of a description's bytes.
 mod lines;
 mod numbers;
 mod program;
-mod words;
 
 pub use program::report;
-pub use words::words_of;

@@ -1,6 +1,6 @@
 // What is printed for which bytes.
 ghost use mathlib.Core.Path.{_≡_};
-ghost use Prim.Native.Nat.{_+_, _≤_};
+ghost use Prim.Native.Nat.{_≤_};
 ghost use Rattle.build.specs.Means.{builtMeans};
 ghost use lib.ListN.{length};
 ghost use Rattle.text.specs.Told.{Puts, rowsOf};
@@ -8,10 +8,10 @@ ghost use Rattle.text.specs.Text.{described, printed, mostBytes, shown, 
 use crate::lines::put_answer;
 use crate::lines::put_refused;
 use crate::lines::put_rows;
-use crate::words::words_of;
 use build::Built;
 use build::build;
 use types::Refusal;
+use words::words_of;
 
 // A line has at most 77 bytes, the last one at most 30.
 const MOST_BYTES: usize = 78878;

@@ -91,6 +91,8 @@ unfolding putWords
 length-puts k [] b = refl
 length-puts k (w ∷ ws) b = length-puts (suc k) ws (putWord k w b) ∙ length-put k w b
 
+-- one word more, and none left
+
 put-turn : (ws b : List ℕ) (k : ℕ) → k < length ws → putWords (k + 1) (drop (k + 1) ws) (putWord k (getD ws k 0) b) ≡ putWords k (drop k ws) b
 unfolding putWords
 put-turn ws b k h = rw (add-one, drop-cons ws k 0 h)
@@ -130,6 +132,7 @@ four-bytes w =
     let four : w % 4294967296 ≡ w % 16777216 + 16777216 * (w / 16777216 % 256) = byte-more w 16777216 (omega arith) in
     rw (four, three, two)
 
+-- a byte stored among bytes
 set-below : (b : List ℕ) (i v : ℕ) → v < 256 → ((j : ℕ) → getD b j 0 < 256) → (j : ℕ) → getD (set b i v) j 0 < 256
 set-below [] i v h bytes j = omega arith
 set-below (x ∷ b) zero v h bytes zero = h
@@ -138,6 +141,8 @@ set-below (x ∷ b) (suc i) v h bytes zero = bytes 0
 set-below (x ∷ b) (suc i) v h bytes (suc j) = set-below b i v h (λ m. bytes (suc m)) j
 
 module _ (k w : ℕ) (b : List ℕ) where
+  -- after one, two and three stores
+
   abbrev one : List ℕ
   one = set b (4 * k) (w % 256)
 
@@ -265,6 +270,7 @@ unfolding putWords
 puts-below k [] b bytes = bytes
 puts-below k (w ∷ ws) b bytes = puts-below (suc k) ws (putWord k w b) (put-below k w b bytes)
 
+-- the four bytes of a word, each in its place
 bytes-of :
     (x y z u : ℕ) → x < 256 → y < 256 → z < 256 → u < 256 →
     ((x + 256 * y + 65536 * z + 16777216 * u) % 256 ≡ x)
@@ -297,6 +303,7 @@ put-rest x b bytes h =
     puts-append 0 x (drop n (wholeWords b)) b
     ∙ rw (zero-add n, ← rest) (words-back (length b / 4 - n) n after (puts-below 0 x b bytes) (rw (length-puts 0 x b) (omega arith)))
 
+-- so all of them
 pub put-same : (b : List ℕ) → ((j : ℕ) → getD b j 0 < 256) → putWords 0 (wholeWords b) b ≡ b
 unfolding putWords
 put-same b bytes = put-rest [] b bytes (omega arith)
