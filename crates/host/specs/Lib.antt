@@ -2,3 +2,5 @@
 pub mod Numbers
 pub mod Infos
 pub mod Bytes
+pub mod Asked
+pub mod Short

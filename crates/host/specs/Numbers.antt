@@ -2,7 +2,7 @@
 use mathlib.Core.Bool.{Bool, cond, not}
 use mathlib.Core.List.{List, [], _∷_, _++_}
 use mathlib.Core.Option.{Option, none, some}
-use Prim.Native.Nat.{ℕ, _+_, _-_, _*_, _%_}
+use Prim.Native.Nat.{ℕ, _+_, _-_, _*_}
 use lib.Dec.{leb, ltb, eqb}
 use lib.ListN.{length, getD}
 use Rattle.canon.specs.Answer.{Leaf, is, no, Answer, ok, refused}
@@ -101,11 +101,11 @@ typeWords i =
 
 -- "size in the low 32 bits, alignment in bits 32 to 39"
 abbrev pub layoutNumber : Layout → ℕ
-layoutNumber f = 4294967296 * (f .align % 256) + f .size
+layoutNumber f = 4294967296 * f .align + f .size
 
 -- a list: "the packed types in bits 0 to 33 (two bits each, first lowest), their count in bits 40 to 47"
 abbrev pub listNumber : Packed → ℕ
-listNumber p = 1099511627776 * (p .number % 256) + p .types % 17179869184
+listNumber p = 1099511627776 * p .number + p .types
 
 -- "memory": "bit 55 alone"
 abbrev pub flattenedNumber : Option Packed → ℕ

@@ -5,10 +5,9 @@ ghost use lib.ListN.{length};
 ghost use Rattle.types.specs.Leaves.{recordAnswer, variantAnswer};
 ghost use Rattle.types.specs.Means.{abiMeans, infoMeans, variantMeans};
 ghost use Rattle.types.specs.States.{casesMeans, addCase};
-ghost use Rattle.host.specs.Bytes.{allWords};
+ghost use Rattle.words.specs.Words.{wholeWords};
 ghost use Rattle.host.specs.Infos.{infoAt, caseAt, infosOf, casesOf};
 ghost use Rattle.host.specs.Numbers.{leafNumber, chosen, abiWords, variantWords};
-use crate::bytes::word_at;
 use crate::given::abi_at;
 use crate::packing::abi_number;
 use crate::packing::variant_number;
@@ -18,10 +17,11 @@ use types::RecordState;
 use types::VariantAnswer;
 use types::VariantInfo;
 use types::VariantState;
+use words::word_at;
 
 fn info_at(bytes: &[u8], at: usize) -> CanonicalAbiInfo
     requires { ⌜ at + 5 ≤ length (now bytes) / 4 ⌝ }
-    ensures { λ r. ⌜ abiMeans r ≡ infoAt (allWords (now (bytes .entry))) at ⌝ }
+    ensures { λ r. ⌜ abiMeans r ≡ infoAt (wholeWords (now (bytes .entry))) at ⌝ }
 {
     abi_at(
         word_at(bytes, at),
@@ -33,7 +33,7 @@ fn info_at(bytes: &[u8], at: usize) -> CanonicalAbiInfo
 }
 
 fn record_of(infos: &[u8]) -> InfoAnswer
-    ensures { λ r. ⌜ infoMeans r ≡ recordAnswer (infosOf (allWords (now (infos .entry)))) ⌝ }
+    ensures { λ r. ⌜ infoMeans r ≡ recordAnswer (infosOf (wholeWords (now (infos .entry)))) ⌝ }
 {
     let n = infos.len() / 4 / 5;
     let mut state = RecordState::start();
@@ -47,14 +47,14 @@ fn record_of(infos: &[u8]) -> InfoAnswer
 
 #[no_mangle]
 pub extern "C" fn lampughjata_record_bytes(infos: &[u8], k: u32) -> u64
-    ensures { λ r. ⌜ r ≡ leafNumber (λ a. chosen k (abiWords a)) (recordAnswer (infosOf (allWords (now (infos .entry))))) ⌝ }
+    ensures { λ r. ⌜ r ≡ leafNumber (λ a. chosen k (abiWords a)) (recordAnswer (infosOf (wholeWords (now (infos .entry))))) ⌝ }
 {
     abi_number(record_of(infos), k)
 }
 
 fn add_case(state: VariantState, bytes: &[u8], at: usize) -> VariantState
     requires { ⌜ at + 6 ≤ length (now bytes) / 4 ⌝ }
-    ensures { λ r. ⌜ casesMeans r ≡ addCase (casesMeans state) (caseAt (allWords (now (bytes .entry))) at) ⌝ }
+    ensures { λ r. ⌜ casesMeans r ≡ addCase (casesMeans state) (caseAt (wholeWords (now (bytes .entry))) at) ⌝ }
 {
     if word_at(bytes, at) == 0 {
         state.bare()
@@ -64,7 +64,7 @@ fn add_case(state: VariantState, bytes: &[u8], at: usize) -> VariantState
 }
 
 fn variant_of(cases: &[u8]) -> VariantAnswer
-    ensures { λ r. ⌜ variantMeans r ≡ variantAnswer (casesOf (allWords (now (cases .entry)))) ⌝ }
+    ensures { λ r. ⌜ variantMeans r ≡ variantAnswer (casesOf (wholeWords (now (cases .entry)))) ⌝ }
 {
     let n = cases.len() / 4 / 6;
     let mut state = VariantState::start();
@@ -78,7 +78,7 @@ fn variant_of(cases: &[u8]) -> VariantAnswer
 
 #[no_mangle]
 pub extern "C" fn lampughjata_variant_bytes(cases: &[u8], k: u32) -> u64
-    ensures { λ r. ⌜ r ≡ leafNumber (λ v. chosen k (variantWords v)) (variantAnswer (casesOf (allWords (now (cases .entry))))) ⌝ }
+    ensures { λ r. ⌜ r ≡ leafNumber (λ v. chosen k (variantWords v)) (variantAnswer (casesOf (wholeWords (now (cases .entry))))) ⌝ }
 {
     variant_number(variant_of(cases), k)
 }

@@ -1,5 +1,5 @@
 // The boundary: each call takes numbers and slices, and answers one 64-bit number.
-mod bytes;
+mod asked;
 mod given;
 mod infos;
 mod infos_bytes;

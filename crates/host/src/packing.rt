@@ -10,6 +10,7 @@ ghost use Rattle.build.specs.Means.{builtMeans};
 ghost use Rattle.questions.specs.Means.{typeMeans, answerMeans as layoutAnswerMeans};
 ghost use Rattle.signature.specs.Means.{flattenedMeans, borrowMeans, answerMeans as signatureAnswerMeans};
 ghost use Rattle.host.specs.Numbers.{refusalNumber, answerNumber, leafNumber, itself, flatNumber, chosen, abiWords, variantWords, fieldWords, typeWords, layoutNumber, listNumber, flattenedNumber, paramsNumber, resultsNumber};
+ghost use Rattle.host.specs.Short.{ShortList, ShortFlat, ShortSignature, IfAnswered};
 use build::Built;
 use flat_types::FlatList;
 use questions::LayoutAnswer;
@@ -202,22 +203,20 @@ pub(crate) fn layout_number(answer: LayoutAnswer) -> u64
     ensures { λ r. ⌜ r ≡ answerNumber layoutNumber (layoutAnswerMeans answer) ⌝ }
 {
     match answer {
-        LayoutAnswer::Layout(layout) => {
-            let align = layout.align % 256;
-            4294967296 * wide(align) + wide(layout.size)
-        }
+        LayoutAnswer::Layout(layout) => 4294967296 * wide(layout.align) + wide(layout.size),
         LayoutAnswer::Refused(why, position) => refused(why, position.0),
     }
 }
 
 fn list_number(list: FlatList) -> u64
+    requires { ⌜ ShortList (words list) ⌝ }
     ensures { λ r. ⌜ r ≡ listNumber (words list) ⌝ }
 {
-    let count = list.count % 256;
-    1099511627776 * wide(count) + list.types % 17179869184
+    1099511627776 * wide(list.count) + list.types
 }
 
 pub(crate) fn flattened_number(answer: Flattened) -> u64
+    requires { ⌜ IfAnswered ShortFlat (flattenedMeans answer) ⌝ }
     ensures { λ r. ⌜ r ≡ answerNumber flattenedNumber (flattenedMeans answer) ⌝ }
 {
     match answer {
@@ -228,6 +227,7 @@ pub(crate) fn flattened_number(answer: Flattened) -> u64
 }
 
 pub(crate) fn params_number(answer: SignatureAnswer) -> u64
+    requires { ⌜ IfAnswered ShortSignature (signatureAnswerMeans answer) ⌝ }
     ensures { λ r. ⌜ r ≡ answerNumber paramsNumber (signatureAnswerMeans answer) ⌝ }
 {
     match answer {
@@ -240,6 +240,7 @@ pub(crate) fn params_number(answer: SignatureAnswer) -> u64
 }
 
 pub(crate) fn results_number(answer: SignatureAnswer) -> u64
+    requires { ⌜ IfAnswered ShortSignature (signatureAnswerMeans answer) ⌝ }
     ensures { λ r. ⌜ r ≡ answerNumber resultsNumber (signatureAnswerMeans answer) ⌝ }
 {
     match answer {

@@ -1,31 +1,32 @@
-// A build, and the questions on layout, over bytes: decoded into words, asked, and what was written put back.
+// A build, and the questions on layout, over bytes. What is lent to be written is decoded too, so that words that are not written stay.
 ghost use mathlib.Core.Path.{_≡_};
-ghost use lib.ListN.{length};
-ghost use Prim.Native.Nat.{_/_, _≤_};
+ghost use lib.ListN.{length, take};
+ghost use Prim.Native.Nat.{_/_};
 ghost use Rattle.canon.specs.Description.{buildAnswer, tableAfter};
 ghost use Rattle.canon.specs.Question.{typeAnswer, sizeAlignAnswer, placementAnswer, offsetsAfter};
+ghost use Rattle.words.specs.Words.{wholeWords, putWords};
 ghost use Rattle.host.specs.Numbers.{memoryAt, answerNumber, itself, chosen, typeWords, layoutNumber};
-ghost use Rattle.host.specs.Bytes.{tableWords, listWords, putWords, buildBytes, tableBytes};
-use crate::bytes::decode;
-use crate::bytes::encode;
-use crate::bytes::whole_words;
+ghost use Rattle.host.specs.Bytes.{buildBytes, tableBytes};
+use crate::asked::Asked;
+use crate::asked::ask_bytes;
 use crate::packing::refused;
 use crate::tables::lampughjata_build;
 use crate::tables::lampughjata_placement;
-use crate::tables::lampughjata_size_align;
-use crate::tables::lampughjata_type;
 use types::Refusal;
+use words::put_words;
+use words::words_of;
 
 fn build_into(ws: &[u32], t: &mut [u32], table: &mut [u8]) -> u64
-    requires { ⌜ length (now t) ≤ length (now table) / 4 ⌝ }
     ensures { λ r. ⌜ r ≡ answerNumber itself (buildAnswer (now (ws .entry)) (now (t .entry))) ⌝ }
-    ensures { λ _. ⌜ now (table .exit) ≡ putWords 0 (tableAfter (now (ws .entry)) (now (t .entry))) (now (table .entry)) ⌝ }
+    ensures { λ _. ⌜ (now (t .exit) ≡ tableAfter (now (ws .entry)) (now (t .entry))) × (length (now (t .exit)) ≡ length (now (t .entry))) ⌝ }
+    ensures { λ _. ⌜ now (table .exit) ≡ putWords 0 (take (length (now (table .entry)) / 4) (now (t .exit))) (now (table .entry)) ⌝ }
 {
     let answer = lampughjata_build(ws, t);
-    encode(t, table);
+    put_words(t, table);
     answer
 }
 
+// No row stands beyond the word 16,384 of a table.
 #[no_mangle]
 pub extern "C" fn lampughjata_build_bytes(words: &[u8], table: &mut [u8]) -> u64
     ensures { λ r. ⌜ r ≡ answerNumber itself (buildBytes (now (words .entry)) (now (table .entry))) ⌝ }
@@ -38,32 +39,26 @@ pub extern "C" fn lampughjata_build_bytes(words: &[u8], table: &mut [u8]) -> u64
         return refused(Refusal::Truncated, 0);
     }
     let mut ws = [0u32; 16384];
-    let count = whole_words(words, 16384);
-    decode(words, count, &mut ws);
+    let count = words_of(words, &mut ws);
     let mut t = [0u32; 16384];
-    let room = whole_words(table, 16384);
-    decode(table, room, &mut t);
+    let room = words_of(table, &mut t);
     build_into(&ws[..count], &mut t[..room], table)
 }
 
 #[no_mangle]
 pub extern "C" fn lampughjata_type_bytes(t: &[u8], n: u32, reference: u32, k: u32) -> u64
-    ensures { λ r. ⌜ r ≡ answerNumber (λ i. chosen k (typeWords i)) (typeAnswer (tableWords (now (t .entry))) n reference) ⌝ }
+    ensures { λ r. ⌜ r ≡ answerNumber (λ i. chosen k (typeWords i)) (typeAnswer (wholeWords (now (t .entry))) n reference) ⌝ }
 {
-    let mut ts = [0u32; 16384];
-    let room = whole_words(t, 16384);
-    decode(t, room, &mut ts);
-    lampughjata_type(&ts[..room], n, reference, k)
+    let asked = Asked::Type(reference, k);
+    ask_bytes(asked, t, n, &[], &[])
 }
 
 #[no_mangle]
 pub extern "C" fn lampughjata_size_align_bytes(memory: u32, t: &[u8], n: u32, reference: u32) -> u64
-    ensures { λ r. ⌜ r ≡ answerNumber layoutNumber (sizeAlignAnswer (memoryAt memory) (tableWords (now (t .entry))) n reference) ⌝ }
+    ensures { λ r. ⌜ r ≡ answerNumber layoutNumber (sizeAlignAnswer (memoryAt memory) (wholeWords (now (t .entry))) n reference) ⌝ }
 {
-    let mut ts = [0u32; 16384];
-    let room = whole_words(t, 16384);
-    decode(t, room, &mut ts);
-    lampughjata_size_align(memory, &ts[..room], n, reference)
+    let asked = Asked::SizeAlign(memory, reference);
+    ask_bytes(asked, t, n, &[], &[])
 }
 
 fn place_into(
@@ -74,15 +69,16 @@ fn place_into(
     offsets: &mut [u32],
     out: &mut [u8],
 ) -> u64
-    requires { ⌜ length (now offsets) ≤ length (now out) / 4 ⌝ }
     ensures { λ r. ⌜ r ≡ answerNumber layoutNumber (placementAnswer (memoryAt memory) (now (t .entry)) n (now (references .entry)) (length (now (offsets .entry)))) ⌝ }
-    ensures { λ _. ⌜ now (out .exit) ≡ putWords 0 (offsetsAfter (memoryAt memory) (now (t .entry)) n (now (references .entry)) (now (offsets .entry))) (now (out .entry)) ⌝ }
+    ensures { λ _. ⌜ (now (offsets .exit) ≡ offsetsAfter (memoryAt memory) (now (t .entry)) n (now (references .entry)) (now (offsets .entry))) × (length (now (offsets .exit)) ≡ length (now (offsets .entry))) ⌝ }
+    ensures { λ _. ⌜ now (out .exit) ≡ putWords 0 (take (length (now (out .entry)) / 4) (now (offsets .exit))) (now (out .entry)) ⌝ }
 {
     let answer = lampughjata_placement(memory, t, n, references, offsets);
-    encode(offsets, out);
+    put_words(offsets, out);
     answer
 }
 
+// No offset stands beyond the word 16,384 of a buffer.
 #[no_mangle]
 pub extern "C" fn lampughjata_placement_bytes(
     memory: u32,
@@ -91,18 +87,15 @@ pub extern "C" fn lampughjata_placement_bytes(
     references: &[u8],
     out: &mut [u8],
 ) -> u64
-    ensures { λ r. ⌜ r ≡ answerNumber layoutNumber (placementAnswer (memoryAt memory) (tableWords (now (t .entry))) n (listWords (now (references .entry))) (length (tableWords (now (out .entry))))) ⌝ }
-    ensures { λ _. ⌜ now (out .exit) ≡ putWords 0 (offsetsAfter (memoryAt memory) (tableWords (now (t .entry))) n (listWords (now (references .entry))) (tableWords (now (out .entry)))) (now (out .entry)) ⌝ }
+    ensures { λ r. ⌜ r ≡ answerNumber layoutNumber (placementAnswer (memoryAt memory) (wholeWords (now (t .entry))) n (wholeWords (now (references .entry))) (length (wholeWords (now (out .entry))))) ⌝ }
+    ensures { λ _. ⌜ now (out .exit) ≡ putWords 0 (offsetsAfter (memoryAt memory) (wholeWords (now (t .entry))) n (wholeWords (now (references .entry))) (wholeWords (now (out .entry)))) (now (out .entry)) ⌝ }
 {
     let mut ts = [0u32; 16384];
-    let room = whole_words(t, 16384);
-    decode(t, room, &mut ts);
+    let room = words_of(t, &mut ts);
     let mut rs = [0u32; 16385];
-    let count = whole_words(references, 16385);
-    decode(references, count, &mut rs);
+    let count = words_of(references, &mut rs);
     let mut os = [0u32; 16384];
-    let offsets = whole_words(out, 16384);
-    decode(out, offsets, &mut os);
+    let offsets = words_of(out, &mut os);
     place_into(
         memory,
         &ts[..room],

@@ -1,8 +1,5 @@
-use native.Mathlib.Omega.{arith}
-use denote.Ref.{now}
 use borrow.Author.Tests.{eq-eqb, ne-eqb}
 use Rattle.host.specs.Infos.{caseAt}
-use Rattle.host.proofs.Words.{all-at}
 use borrow.Author.Needs.{needs}
 use Rattle.host.proofs.infos_bytes.add_case.Statement.{statement}
 use Rattle.host.proofs.infos_bytes.add_case.Tie as tie
@@ -24,15 +21,11 @@ payload-requires c κs = search needs
 
 returns : tie.Need-returns
 unfolding caseAt
-returns c =
-    let a = c .before .before .before .before .args in
-    simp (c .bare .ensures, all-at (now (a .bytes)) (a .at) (omega (arith, c .before .before .before .before .pre)), ← c .before .before .word-at .ensures, eq-eqb _ _ (c .before .if1 .taken))
+returns c = simp (c .bare .ensures, ← c .before .before .word-at .ensures, eq-eqb _ _ (c .before .if1 .taken))
 
 returns-2 : tie.Need-returns-2
 unfolding caseAt
-returns-2 c =
-    let a = c .before .before .before .before .before .args in
-    simp (c .payload .ensures, c .before .info-at .ensures, all-at (now (a .bytes)) (a .at) (omega (arith, c .before .before .before .before .before .pre)), ← c .before .before .before .word-at .ensures, ne-eqb _ _ (c .before .before .if1 .left))
+returns-2 c = simp (c .payload .ensures, c .before .info-at .ensures, ← c .before .before .before .word-at .ensures, ne-eqb _ _ (c .before .before .if1 .left))
 
 pub add-case-spec : {M : Type 1} → statement M
 add-case-spec =

@@ -1,8 +1,4 @@
-use Prim.Native.Nat.{_+_}
-use native.Mathlib.Omega.{arith}
-use denote.Ref.{now}
 use Rattle.host.specs.Infos.{infoAt}
-use Rattle.host.proofs.Words.{all-at}
 use borrow.Author.Needs.{needs}
 use Rattle.host.proofs.infos_bytes.info_at.Statement.{statement}
 use Rattle.host.proofs.infos_bytes.info_at.Tie as tie
@@ -40,9 +36,6 @@ abi-at-requires c κs = search needs
 returns : tie.Need-returns
 unfolding infoAt
 returns c =
-    let a = c .before .before .before .before .before .before .before .args in
-    let b = now (a .bytes) in
-    let h = c .before .before .before .before .before .before .before .pre in
     simp (
       c .abi-at .ensures,
       c .before .word-at5 .ensures,
@@ -50,11 +43,6 @@ returns c =
       c .before .before .before .word-at3 .ensures,
       c .before .before .before .before .word-at2 .ensures,
       c .before .before .before .before .before .word-at .ensures,
-      all-at b (a .at) (omega (arith, h)),
-      all-at b (a .at + 1) (omega (arith, h)),
-      all-at b (a .at + 2) (omega (arith, h)),
-      all-at b (a .at + 3) (omega (arith, h)),
-      all-at b (a .at + 4) (omega (arith, h)),
     )
 
 pub info-at-spec : {M : Type 1} → statement M

@@ -5,16 +5,16 @@ use lib.ListN.{length}
 use denote.Ref.{now}
 use Rattle.types.specs.States.{recordMeans, noFields, addFields, closeFields}
 use Rattle.types.proofs.RecordLaws.{record-answer}
-use Rattle.host.specs.Bytes.{allWords}
+use Rattle.words.specs.Words.{wholeWords}
 use Rattle.host.specs.Infos.{infoAt, several, infosOf}
-use Rattle.host.proofs.Words.{length-words}
+use Rattle.words.proofs.Laws.{length-whole}
 use Rattle.host.proofs.Several.{one-more, no-more}
 use borrow.Author.Needs.{needs}
 use Rattle.host.proofs.infos_bytes.record_of.Statement.{statement}
 use Rattle.host.proofs.infos_bytes.record_of.Tie as tie
 
 abbrev Inv-loop : tie.InvT-loop
-Inv-loop infos n state₀ j₀ state j = (j ≤ n) × (n ≡ length infos / 4 / 5) × (addFields (recordMeans state) (several (λ i. infoAt (allWords infos) (5 * i)) j (n - j)) ≡ addFields noFields (infosOf (allWords infos)))
+Inv-loop infos n state₀ j₀ state j = (j ≤ n) × (n ≡ length infos / 4 / 5) × (addFields (recordMeans state) (several (λ i. infoAt (wholeWords infos) (5 * i)) j (n - j)) ≡ addFields noFields (infosOf (wholeWords infos)))
 
 abbrev μ-loop : tie.MeasureT-loop
 μ-loop infos n state₀ j₀ state j = n - j
@@ -23,7 +23,7 @@ start-requires : tie.Need-start-requires Inv-loop μ-loop
 start-requires c κs = search needs
 
 loop-holds : tie.Need-loop-holds Inv-loop μ-loop
-loop-holds c = (search needs, refl, rw (c .start .ensures, sub-zero, length-words))
+loop-holds c = (search needs, refl, rw (c .start .ensures, sub-zero, length-whole))
 
 mul-info-at : tie.Need-mul-info-at Inv-loop μ-loop
 mul-info-at c = search needs
@@ -44,7 +44,7 @@ loop-again : tie.Need-loop-again Inv-loop μ-loop
 unfolding addFields
 loop-again c =
     let b = now (c .before .before .before .before .before .before .args .infos) in
-    let w = allWords b in
+    let w = wholeWords b in
     let l = c .before .before .before .loop in
     (search needs, refl, rw (c .field .ensures, c .before .info-at .ensures) (one-more (λ i. infoAt w (5 * i)) (l .j) (length b / 4 / 5) addFields (recordMeans (l .state)) _ refl (search needs) ∙ l .inv .2))
 
@@ -55,7 +55,7 @@ returns : tie.Need-returns Inv-loop μ-loop
 unfolding addFields
 returns c =
     let b = now (c .before .before .before .before .before .args .infos) in
-    let w = allWords b in
+    let w = wholeWords b in
     let l = c .before .before .loop in
     c .record .ensures
     ∙ ap closeFields (ap (addFields (recordMeans (l .state))) (sym (no-more (λ i. infoAt w (5 * i)) (l .j) (length b / 4 / 5) (c .before .loop-test .left))) ∙ l .inv .2)

@@ -6,7 +6,7 @@ enum-known-answer : tie.Need-enum-known-answer
 enum-known-answer c = search needs
 
 list-number-requires : tie.Need-list-number-requires
-list-number-requires c κs = search needs
+list-number-requires c κs = rw (c .before .answer .given .1) at (c .before .before .before .pre)
 
 enum-told : tie.Need-enum-told
 enum-told c = search needs

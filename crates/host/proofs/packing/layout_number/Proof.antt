@@ -24,7 +24,7 @@ refused-requires : tie.Need-refused-requires
 refused-requires c κs = search needs
 
 returns : tie.Need-returns
-returns c = simp (c .before .before .before .before .answer .given .1, c .before .wide .ensures, c .wide2 .ensures)
+returns c = simp (c .before .before .before .answer .given .1, c .before .wide .ensures, c .wide2 .ensures)
 
 returns-2 : tie.Need-returns-2
 returns-2 c = simp (c .before .before .answer2 .given .1, c .refused .ensures)

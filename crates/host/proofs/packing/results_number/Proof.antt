@@ -6,7 +6,7 @@ enum-known-answer : tie.Need-enum-known-answer
 enum-known-answer c = search needs
 
 list-number-requires : tie.Need-list-number-requires
-list-number-requires c κs = search needs
+list-number-requires c κs = let short = rw (c .before .before .answer .given .1) at (c .before .before .before .before .pre) in short .1
 
 enum-known-answer-2 : tie.Need-enum-known-answer-2
 enum-known-answer-2 c = search needs

@@ -1,3 +1,4 @@
+use Rattle.host.proofs.Short.{return-short}
 use Rattle.host.specs.Numbers.{answerNumber, resultsNumber}
 use mathlib.Core.Path.{ap, _∙_}
 use borrow.Author.Needs.{needs}
@@ -14,7 +15,7 @@ async-return-signature-requires : tie.Need-async-return-signature-requires
 async-return-signature-requires c κs = search needs
 
 results-number-requires : tie.Need-results-number-requires
-results-number-requires c κs = search needs
+results-number-requires c κs = rw (c .async-return-signature .ensures) (return-short _ _ _ _ _ _)
 
 returns : tie.Need-returns
 returns c = c .results-number .ensures ∙ ap (answerNumber resultsNumber) (rw (c .before .before .before .side-at .ensures, c .before .before .side-at2 .ensures) at (c .before .async-return-signature .ensures))

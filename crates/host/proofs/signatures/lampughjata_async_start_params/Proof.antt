@@ -1,3 +1,4 @@
+use Rattle.host.proofs.Short.{start-short}
 use Rattle.host.specs.Numbers.{answerNumber, paramsNumber}
 use mathlib.Core.Path.{ap, _∙_}
 use borrow.Author.Needs.{needs}
@@ -14,7 +15,7 @@ async-start-signature-requires : tie.Need-async-start-signature-requires
 async-start-signature-requires c κs = search needs
 
 params-number-requires : tie.Need-params-number-requires
-params-number-requires c κs = search needs
+params-number-requires c κs = rw (c .async-start-signature .ensures) (start-short _ _ _ _ _ _)
 
 returns : tie.Need-returns
 returns c = c .params-number .ensures ∙ ap (answerNumber paramsNumber) (rw (c .before .before .before .side-at .ensures, c .before .before .side-at2 .ensures) at (c .before .async-start-signature .ensures))

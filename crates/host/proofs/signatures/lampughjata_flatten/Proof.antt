@@ -1,3 +1,4 @@
+use Rattle.host.proofs.Short.{flatten-short}
 use Rattle.host.specs.Numbers.{answerNumber, flattenedNumber}
 use mathlib.Core.Path.{ap, _∙_}
 use borrow.Author.Needs.{needs}
@@ -11,7 +12,7 @@ flatten-types-requires : tie.Need-flatten-types-requires
 flatten-types-requires c κs = search needs
 
 flattened-number-requires : tie.Need-flattened-number-requires
-flattened-number-requires c κs = search needs
+flattened-number-requires c κs = rw (c .flatten-types .ensures) (flatten-short _ _ _ _ _)
 
 returns : tie.Need-returns
 returns c = c .flattened-number .ensures ∙ ap (answerNumber flattenedNumber) (rw (c .before .before .memory-at .ensures) at (c .before .flatten-types .ensures))

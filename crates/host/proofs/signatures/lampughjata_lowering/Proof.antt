@@ -1,3 +1,4 @@
+use Rattle.host.proofs.Short.{flatten-short}
 use denote.Ref.{now}
 use Rattle.signature.specs.Packs.{packedFlattened}
 use Rattle.canon.specs.Signature.{Side, loweringAnswer}
@@ -14,7 +15,7 @@ flatten-lowering-types-requires : tie.Need-flatten-lowering-types-requires
 flatten-lowering-types-requires c κs = search needs
 
 flattened-number-requires : tie.Need-flattened-number-requires
-flattened-number-requires c κs = search needs
+flattened-number-requires c κs = rw (c .flatten-lowering-types .ensures) (flatten-short _ _ _ _ _)
 
 returns : tie.Need-returns
 returns c = c .flattened-number .ensures ∙ ap (answerNumber flattenedNumber) (c .before .flatten-lowering-types .ensures ∙ ap (λ (s : Side). packedFlattened (loweringAnswer s (now (c .before .before .before .before .before .args .t)) (c .before .before .before .before .before .args .n) (now (c .before .before .before .before .before .args .references)))) (c .before .before .side-at .ensures))

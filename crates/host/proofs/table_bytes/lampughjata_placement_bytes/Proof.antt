@@ -1,77 +1,84 @@
--- The decoded words are the first words of the bytes; the call over words does the rest.
-use mathlib.Core.Path.{sym}
+-- The decoded fronts are the first words of the bytes; the rest changes no answer and stays.
+use mathlib.Core.Path.{sym, ap, _∙_}
+use denote.Ref.{now}
+use lib.ListN.{length, length-take}
 use lib.Seq.{length-take-le}
+use Rattle.canon.proofs.Capped.{placement-first}
+use Rattle.words.specs.Words.{wholeWords}
+use Rattle.host.specs.Numbers.{memoryAt, answerNumber, layoutNumber}
+use Rattle.host.proofs.Decoded.{front, offsets-put}
 use borrow.Author.Needs.{needs}
 use Rattle.host.proofs.table_bytes.lampughjata_placement_bytes.Statement.{statement}
 use Rattle.host.proofs.table_bytes.lampughjata_placement_bytes.Tie as tie
 
-whole-words-requires : tie.Need-whole-words-requires
-whole-words-requires c κs = search needs
+slice-aggregate-words-of : tie.Need-slice-aggregate-words-of
+slice-aggregate-words-of c = search needs
 
-slice-aggregate-decode : tie.Need-slice-aggregate-decode
-slice-aggregate-decode c = search needs
+words-of-requires : tie.Need-words-of-requires
+words-of-requires c κs = search needs
 
-decode-requires : tie.Need-decode-requires
-decode-requires c κs = search needs
+slice-aggregate-words-of-2 : tie.Need-slice-aggregate-words-of-2
+slice-aggregate-words-of-2 c = search needs
 
-whole-words-requires-2 : tie.Need-whole-words-requires-2
-whole-words-requires-2 c κs = search needs
+words-of-requires-2 : tie.Need-words-of-requires-2
+words-of-requires-2 c κs = search needs
 
-slice-aggregate-decode-2 : tie.Need-slice-aggregate-decode-2
-slice-aggregate-decode-2 c = search needs
+slice-aggregate-words-of-3 : tie.Need-slice-aggregate-words-of-3
+slice-aggregate-words-of-3 c = search needs
 
-decode-requires-2 : tie.Need-decode-requires-2
-decode-requires-2 c κs = search needs
-
-whole-words-requires-3 : tie.Need-whole-words-requires-3
-whole-words-requires-3 c κs = search needs
-
-slice-aggregate-decode-3 : tie.Need-slice-aggregate-decode-3
-slice-aggregate-decode-3 c = search needs
-
-decode-requires-3 : tie.Need-decode-requires-3
-decode-requires-3 c κs = search needs
+words-of-requires-3 : tie.Need-words-of-requires-3
+words-of-requires-3 c κs = search needs
 
 array-share-prefix-ts : tie.Need-array-share-prefix-ts
 array-share-prefix-ts c = search needs
 
 slice-aggregate-place-into : tie.Need-slice-aggregate-place-into
-slice-aggregate-place-into c = sym (length-take-le (c .before .before .before .before .before .before .before .before .before .before .before .before .before .before .whole-words .result) (c .before .before .before .before .before .before .before .before .before .before .before .before .decode .last .1 .1 .0) (search needs))
+slice-aggregate-place-into c = let w = c .before .before .before .before .before .before .before .before .before .words-of in sym (length-take-le (w .result) (w .last .1 .0) (search needs))
 
 array-share-prefix-rs : tie.Need-array-share-prefix-rs
 array-share-prefix-rs c = search needs
 
 slice-aggregate-place-into-2 : tie.Need-slice-aggregate-place-into-2
-slice-aggregate-place-into-2 c = sym (length-take-le (c .before .before .before .before .before .before .before .before .before .before .before .whole-words2 .result) (c .before .before .before .before .before .before .before .before .before .decode2 .last .1 .1 .0) (search needs))
+slice-aggregate-place-into-2 c = let w = c .before .before .before .before .before .before .before .words-of2 in sym (length-take-le (w .result) (w .last .1 .0) (search needs))
 
 array-borrow-prefix-os : tie.Need-array-borrow-prefix-os
 array-borrow-prefix-os c = search needs
 
 slice-aggregate-place-into-3 : tie.Need-slice-aggregate-place-into-3
-slice-aggregate-place-into-3 c = sym (length-take-le (c .before .before .before .before .before .before .before .whole-words3 .result) (c .before .before .before .before .decode3 .last .1 .1 .0) (search needs))
+slice-aggregate-place-into-3 c = let w = c .before .before .before .before .words-of3 in sym (length-take-le (w .result) (w .last .1 .0) (search needs))
 
 place-into-requires : tie.Need-place-into-requires
-place-into-requires c κs = rw (length-take-le (c .before .before .before .before .before .before .before .before .whole-words3 .result) (c .before .before .before .before .before .decode3 .last .1 .1 .0) (search needs)) (c .before .before .before .before .before .before .before .before .whole-words3 .ensures .2)
+place-into-requires c κs = search needs
 
 same-length : tie.Need-same-length
 same-length c = search needs
 
 returns : tie.Need-returns
-returns c = (rw (← c .before .before .before .before .before .before .before .before .before .before .before .before .before .before .before .before .before .before .before .before .before .whole-words .ensures .0, ← c .before .before .before .before .before .before .before .before .before .before .before .before .before .before .before .before .before .before .before .decode .ensures, ← c .before .before .before .before .before .before .before .before .before .before .before .before .before .before .before .before .before .whole-words2 .ensures .0, ← c .before .before .before .before .before .before .before .before .before .before .before .before .before .before .before .decode2 .ensures, ← c .before .before .before .before .before .before .before .before .before .before .before .before .whole-words3 .ensures .0, ← c .before .before .before .before .before .before .before .before .before .decode3 .ensures) (c .before .before .before .place-into .ensures .0), rw (← c .before .before .before .before .before .before .before .before .before .before .before .before .before .before .before .before .before .before .before .before .before .whole-words .ensures .0, ← c .before .before .before .before .before .before .before .before .before .before .before .before .before .before .before .before .before .before .before .decode .ensures, ← c .before .before .before .before .before .before .before .before .before .before .before .before .before .before .before .before .before .whole-words2 .ensures .0, ← c .before .before .before .before .before .before .before .before .before .before .before .before .before .before .before .decode2 .ensures, ← c .before .before .before .before .before .before .before .before .before .before .before .before .whole-words3 .ensures .0, ← c .before .before .before .before .before .before .before .before .before .decode3 .ensures) (c .before .before .before .place-into .ensures .1))
+returns c =
+    let a = c .before .before .before .before .before .before .before .before .before .before .before .before .before .before .before .before .before .before .before .before .before .args in
+    let table = c .before .before .before .before .before .before .before .before .before .before .before .before .before .before .before .before .words-of in
+    let list = c .before .before .before .before .before .before .before .before .before .before .before .before .before .words-of2 in
+    let buffer = c .before .before .before .before .before .before .before .before .before .words-of3 in
+    let into = c .before .before .before .place-into in
+    let t = wholeWords (now (a .t)) in
+    let ws = wholeWords (now (a .references)) in
+    let rows = front _ _ 16384 (search needs) (table .ensures .0) (table .ensures .1) in
+    let few = front _ _ 16385 (search needs) (list .ensures .0) (list .ensures .1) in
+    let out = front _ _ 16384 (search needs) (buffer .ensures .0) (buffer .ensures .1) in (
+      into .ensures .0 ∙ rw (rows, few, out, length-take 16384 (wholeWords (now (a .out)))) (ap (answerNumber layoutNumber) (placement-first (memoryAt (a .memory)) t (a .n) ws (length (wholeWords (now (a .out)))))),
+      into .ensures .1 .1 ∙ offsets-put _ (now (a .out)) (λ i. c .before .before .before .before .before .before .before .before .before .before .before .before .before .before .before .before .before .before .slice-known .given i .fits) (into .ensures .1 .0 .1 ∙ ap length out) (memoryAt (a .memory)) t (a .n) ws (into .ensures .1 .0 .0 ∙ rw (rows, few, out)),
+    )
 
 pub lampughjata-placement-bytes-spec : {M : Type 1} → statement M
 lampughjata-placement-bytes-spec =
     tie.close
     (tie.spec
-    whole-words-requires
-    slice-aggregate-decode
-    decode-requires
-    whole-words-requires-2
-    slice-aggregate-decode-2
-    decode-requires-2
-    whole-words-requires-3
-    slice-aggregate-decode-3
-    decode-requires-3
+    slice-aggregate-words-of
+    words-of-requires
+    slice-aggregate-words-of-2
+    words-of-requires-2
+    slice-aggregate-words-of-3
+    words-of-requires-3
     array-share-prefix-ts
     slice-aggregate-place-into
     array-share-prefix-rs

@@ -1,0 +1,76 @@
+-- What a call over bytes leaves undecoded changes no answer, and words that are put back unchanged leave their bytes as they were.
+use mathlib.Core.Path.{_≡_, sym, ap, _∙_}
+use mathlib.Core.List.{List, _++_}
+use Prim.Native.Nat.{ℕ, _*_, _/_, _≤_, _<_, min}
+use native.Mathlib.Decide.{decLe}
+use native.Mathlib.Omega.{arith}
+use lib.ListN.{length, getD, take, drop, length-take, drop-of-length-le}
+use lib.Seq.{take-all}
+use Rattle.canon.specs.Description.{tableAfter}
+use Rattle.canon.specs.Layout.{Memory}
+use Rattle.canon.specs.Signature.{flattenAnswer, asyncStartAnswer, asyncReturnAnswer}
+use Rattle.canon.specs.Question.{borrowAnswer, offsetsAfter}
+use Rattle.canon.proofs.Capped.{type-first, size-align-first, ask-first, askTwo-first, table-after-first, offsets-first}
+use Rattle.words.specs.Words.{wholeWords, putWords}
+use Rattle.words.proofs.Laws.{length-whole, front-read, put-rest}
+use Rattle.host.specs.Asked.{askedNumber}
+use Rattle.host.specs.Numbers.{memoryAt}
+use Rattle.host.specs.declared.asked.Asked.{Asked}
+use Rattle.host.specs.declared.asked.Asked.the-variants as asked
+
+-- the front of a buffer of c words, where words were decoded
+pub front :
+    (b w : List ℕ) {u : List ℕ} {n : ℕ} (c : ℕ) → length w ≡ c → n ≡ min (length b / 4) (length w) → u ≡ take n (wholeWords b) ++ drop n w →
+    take n u ≡ take c (wholeWords b)
+front b w {u} {n} c l e f = front-read b w u n e f ∙ ap (λ (i : ℕ). take i (wholeWords b)) l
+
+pub front-all :
+    (b w : List ℕ) {u : List ℕ} {n : ℕ} (c : ℕ) → length w ≡ c → length b ≤ 4 * c → n ≡ min (length b / 4) (length w) → u ≡ take n (wholeWords b) ++ drop n w →
+    take n u ≡ wholeWords b
+front-all b w {u} {n} c l h e f = front b w c l e f ∙ take-all c (wholeWords b) (omega (arith, length-whole b))
+
+pub asked-first :
+    (a : Asked) (t : List ℕ) (n : ℕ) (vs ws : List ℕ) →
+    askedNumber a (take 16384 t) n (take 16385 vs) (take 16385 ws) ≡ askedNumber a t n vs ws
+unfolding flattenAnswer asyncStartAnswer asyncReturnAnswer borrowAnswer
+asked-first (asked.Type w k) t n vs ws = rw (type-first t n w)
+asked-first (asked.SizeAlign m w) t n vs ws = rw (size-align-first (memoryAt m) t n w)
+asked-first (asked.Flatten m max) t n vs ws = rw (ask-first t n)
+asked-first (asked.Lowering m a) t n vs ws = rw (ask-first t n)
+asked-first (asked.Lifting m a) t n vs ws = rw (ask-first t n)
+asked-first (asked.AsyncStartParams m a l) t n vs ws = rw (askTwo-first t n)
+asked-first (asked.AsyncStartResults m a l) t n vs ws = rw (askTwo-first t n)
+asked-first (asked.AsyncReturnParams m a l b) t n vs ws = rw (askTwo-first t n)
+asked-first (asked.AsyncReturnResults m a l b) t n vs ws = rw (askTwo-first t n)
+asked-first asked.ContainsBorrow t n vs ws = rw (ask-first t n)
+
+-- the first words of a buffer put back, as though all had been
+put-first :
+    (x b : List ℕ) → ((i : ℕ) → getD b i 0 < 256) → length x ≡ min 16384 (length b / 4) →
+    putWords 0 (take (length b / 4) x) b ≡ putWords 0 (x ++ drop 16384 (wholeWords b)) b
+put-first x b bytes l =
+    rw (take-all (length b / 4) x (omega arith))
+    (sym (put-rest x b bytes (omega arith)) ∙ ap (λ (y : List ℕ). putWords 0 (x ++ y) b) rest)
+  where
+    rest : drop (length x) (wholeWords b) ≡ drop 16384 (wholeWords b)
+    rest =
+        elim (decLe 16384 (length b / 4)) [
+          | yes h ↦ let e : length x ≡ 16384 = omega arith in ap (λ (i : ℕ). drop i (wholeWords b)) e
+          | no h ↦
+              drop-of-length-le (wholeWords b) {i = length x} (omega (arith, length-whole b))
+              ∙ sym (drop-of-length-le (wholeWords b) {i = 16384} (omega (arith, length-whole b)))
+        ]
+
+-- a table or a buffer whose first words became x
+
+module _ (x b : List ℕ) (bytes : (i : ℕ) → getD b i 0 < 256) (l : length x ≡ length (take 16384 (wholeWords b))) where
+  first : putWords 0 (take (length b / 4) x) b ≡ putWords 0 (x ++ drop 16384 (wholeWords b)) b
+  first = put-first x b bytes (l ∙ length-take 16384 (wholeWords b) ∙ ap (min 16384) (length-whole b))
+
+  pub table-put : (ws : List ℕ) → x ≡ tableAfter ws (take 16384 (wholeWords b)) → putWords 0 (take (length b / 4) x) b ≡ putWords 0 (tableAfter ws (wholeWords b)) b
+  table-put ws e = first ∙ ap (λ (y : List ℕ). putWords 0 y b) (ap (λ (y : List ℕ). y ++ drop 16384 (wholeWords b)) e ∙ table-after-first ws (wholeWords b))
+
+  pub offsets-put :
+      (m : Memory) (t : List ℕ) (n : ℕ) (ws : List ℕ) → x ≡ offsetsAfter m (take 16384 t) n (take 16385 ws) (take 16384 (wholeWords b)) →
+      putWords 0 (take (length b / 4) x) b ≡ putWords 0 (offsetsAfter m t n ws (wholeWords b)) b
+  offsets-put m t n ws e = first ∙ ap (λ (y : List ℕ). putWords 0 y b) (ap (λ (y : List ℕ). y ++ drop 16384 (wholeWords b)) e ∙ offsets-first m t n ws (wholeWords b))

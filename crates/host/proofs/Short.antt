@@ -1,0 +1,141 @@
+-- No list among canon's answers has more than 17 types.
+use mathlib.Core.Path.{_≡_, refl}
+use mathlib.Core.Bool.{Bool, true, false, cond, _||_}
+use mathlib.Core.List.{List, [], _∷_, _++_}
+use mathlib.Core.Option.{Option, none, some}
+use Prim.Native.Nat.{ℕ, _+_, _≤_, _<_, _^_}
+use native.Mathlib.Nat.{lt-of-lt-of-le, pow-le-pow-right}
+use native.Mathlib.Omega.{arith}
+use lib.Dec.{leb, ltb, lit≤}
+use lib.ListN.{length, length-append}
+use borrow.Author.Tests.{leb-true, ltb-false}
+use Rattle.canon.specs.Answer.{Answer, ok, refused, then, unless, tooLong, badCount, noRoom, badRow}
+use Rattle.canon.specs.Flat.{Core, ptrType}
+use Rattle.canon.specs.Layout.{Memory}
+use Rattle.canon.specs.Pack.{pack}
+use Rattle.canon.specs.Row.{Info}
+use Rattle.canon.specs.Question.{read, infos, tooMany, noTable, ask, askTwo}
+use Rattle.canon.specs.Signature.{
+  Flattened,
+  listed,
+  inMemory,
+  flatAll,
+  atMost,
+  flattenAnswer,
+  Side,
+  loweringMax,
+  liftingMax,
+  paramsMax,
+  loweringAnswer,
+  liftingAnswer,
+  Signature,
+  orPointer,
+  startOf,
+  asyncStartAnswer,
+  behindPointer,
+  listOrNone,
+  returned,
+  returnOf,
+  asyncReturnAnswer,
+}
+use Rattle.canon.proofs.Packing.{pack-lt}
+use Rattle.signature.specs.Packs.{packedList, packedFlat, packedFlattened, packedSignature, packedAnswer}
+use Rattle.signature.proofs.Maxima.{params-short, maximum-small}
+use Rattle.host.specs.Short.{ShortList, ShortFlat, ShortSignature, IfAnswered}
+
+-- Whatever a question answers
+
+then-answers : {A B : Type 0} (P : B → Type 0) (a : Answer A) (f : A → B) → IfAnswered (λ x. P (f x)) a → IfAnswered P (then a (λ x. ok (f x)))
+unfolding then
+then-answers P (ok a) f h = h
+then-answers P (refused x i) f h = tt
+
+module _ {A : Type 0} (P : A → Type 0) where
+  unless-answers : (b : Bool) (x : ℕ) (a : Answer A) → (b ≡ false → IfAnswered P a) → IfAnswered P (unless b x a)
+  unfolding unless
+  unless-answers true x a h = tt
+  unless-answers false x a h = h refl
+
+  infos-answer : (a : Answer (List Info)) (k : List Info → Answer A) → ((is′ : List Info) → IfAnswered P (k is′)) → IfAnswered P (then a k)
+  unfolding then
+  infos-answer (ok is′) k h = h is′
+  infos-answer (refused x i) k h = tt
+
+  ask-answers :
+      (t : List ℕ) (n : ℕ) (b s : Bool) (ws : List ℕ) (k : List Info → Answer A) →
+      (b ≡ false → (is′ : List Info) → IfAnswered P (k is′)) → IfAnswered P (ask t n b s ws k)
+  unfolding ask
+  ask-answers t n b s ws k h =
+      unless-answers (tooMany ws) tooLong _
+      (λ _. unless-answers (noTable t n) badRow _
+      (λ _. unless-answers b badCount _ (λ e. unless-answers s noRoom _ (λ _. infos-answer (infos (read t n) 0 ws) k (h e)))))
+
+  askTwo-answers :
+      (t : List ℕ) (n : ℕ) (vs ws : List ℕ) (k : List Info → List Info → Answer A) →
+      ((is′ js : List Info) → IfAnswered P (k is′ js)) → IfAnswered P (askTwo t n vs ws k)
+  unfolding askTwo
+  askTwo-answers t n vs ws k h =
+      unless-answers (tooMany vs || tooMany ws) tooLong _
+      (λ _. unless-answers (noTable t n) badRow _
+      (λ _. infos-answer (infos (read t n) 0 vs) _ (λ is′. infos-answer (infos (read t n) (length vs) ws) _ (h is′))))
+
+-- Lists
+
+short-list : (l : List Core) → length l ≤ 17 → ShortList (packedList l)
+short-list l h = (h, lt-of-lt-of-le (pack-lt l) (pow-le-pow-right (lit≤ tt) h))
+
+short-flat : (max : ℕ) (o : Option (List Core)) → max ≤ 16 → ShortFlat (packedFlat (atMost max o))
+unfolding atMost
+short-flat max none h = tt
+short-flat max (some l) h = go (leb (length l) max) refl
+  where
+    go : (b : Bool) → leb (length l) max ≡ b → ShortFlat (packedFlat (cond b (listed l) inMemory))
+    go true e = short-list l (omega (arith, leb-true (length l) max e))
+    go false e = tt
+
+pub flatten-short : (m : Memory) (max : ℕ) (t : List ℕ) (n : ℕ) (ws : List ℕ) → IfAnswered ShortFlat (packedFlattened (flattenAnswer m max t n ws))
+unfolding flattenAnswer
+flatten-short m max t n ws =
+    then-answers ShortFlat (flattenAnswer m max t n ws) packedFlat
+    (ask-answers (λ f. ShortFlat (packedFlat f)) t n (ltb 16 max) false ws _ (λ e is′. short-flat max (flatAll m is′) (ltb-false 16 max e)))
+
+-- Signatures
+
+results-short : (max : ℕ) (o : Option (List Core)) → max ≤ 16 → length (listOrNone (atMost max o)) ≤ 17
+unfolding atMost
+results-short max none h = omega arith
+results-short max (some l) h = go (leb (length l) max) refl
+  where
+    go : (b : Bool) → leb (length l) max ≡ b → length (listOrNone (cond b (listed l) inMemory)) ≤ 17
+    go true e = omega (arith, leb-true (length l) max e)
+    go false e = omega arith
+
+pub start-short :
+    (t : List ℕ) (n : ℕ) (lower : Side) (vs : List ℕ) (lift : Side) (ws : List ℕ) →
+    IfAnswered ShortSignature (packedAnswer (asyncStartAnswer t n lower vs lift ws))
+unfolding asyncStartAnswer startOf
+start-short t n lower vs lift ws =
+    then-answers ShortSignature (asyncStartAnswer t n lower vs lift ws) packedSignature
+    (askTwo-answers (λ s. ShortSignature (packedSignature s)) t n vs ws _
+    (λ is′ js. (
+      short-list _ (omega (arith, params-short (lower .memory) (paramsMax (lower .async)) (flatAll (lower .memory) is′) (maximum-small (lower .async) 4 16 (omega arith) (omega arith)))),
+      short-list _ (omega (arith, params-short (lift .memory) 16 (flatAll (lift .memory) js) (omega arith))),
+    )))
+
+returned-short :
+    (m : Memory) (b : Bool) (params results : List Core) → length params ≤ 16 → length results ≤ 17 → ShortSignature (packedSignature (returned m b params results))
+unfolding returned
+returned-short m true params results h l = (short-list _ (omega (arith, length-append params (ptrType m ∷ []))), short-list [] (omega arith))
+returned-short m false params results h l = (short-list params (omega arith), short-list results l)
+
+pub return-short :
+    (t : List ℕ) (n : ℕ) (lift : Side) (vs : List ℕ) (lower : Side) (ws : List ℕ) →
+    IfAnswered ShortSignature (packedAnswer (asyncReturnAnswer t n lift vs lower ws))
+unfolding asyncReturnAnswer returnOf
+return-short t n lift vs lower ws =
+    then-answers ShortSignature (asyncReturnAnswer t n lift vs lower ws) packedSignature
+    (askTwo-answers (λ s. ShortSignature (packedSignature s)) t n vs ws _
+    (λ is′ js.
+    returned-short (lift .memory) (behindPointer (lower .async) js (atMost 1 (flatAll (lower .memory) js))) _ _
+    (params-short (lift .memory) (liftingMax (lift .async)) (flatAll (lift .memory) is′) (maximum-small (lift .async) 16 1 (omega arith) (omega arith)))
+    (results-short 1 (flatAll (lower .memory) js) (omega arith))))

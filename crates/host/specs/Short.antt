@@ -1,0 +1,21 @@
+-- What a list's number has room for. 01: "at most 17"; proofs/ carries it from canon's answers.
+use mathlib.Core.Option.{Option, none, some}
+use Prim.Native.Nat.{ℕ, _≤_, _<_}
+use Rattle.canon.specs.Answer.{Answer, ok, refused}
+use Rattle.canon.specs.Pack.{Packed}
+use Rattle.signature.specs.Packs.{PackedSignature}
+
+abbrev pub ShortList : Packed → Type 0
+ShortList p = (p .number ≤ 17) × (p .types < 17179869184)
+
+abbrev pub ShortFlat : Option Packed → Type 0
+ShortFlat none = Unit
+ShortFlat (some p) = ShortList p
+
+abbrev pub ShortSignature : PackedSignature → Type 0
+ShortSignature s = ShortList (s .params) × ShortList (s .results)
+
+-- a fact of the value, where there is one
+abbrev pub IfAnswered : {A : Type 0} → (A → Type 0) → Answer A → Type 0
+IfAnswered P (ok a) = P a
+IfAnswered P (refused x i) = Unit
