@@ -1,4 +1,4 @@
--- A reader of the promises needs all: the numbers that a host sees, the infos that its words hold, and the words that its bytes hold.
+-- A reader of the promises needs Numbers, Infos and Bytes. Asked and Short follow the code; proofs/ carries them to those and to canon.
 pub mod Numbers
 pub mod Infos
 pub mod Bytes
