@@ -38,7 +38,7 @@ fn folder() -> Result<PathBuf, String> {
     if processor != "x86_64" && given("LIBHOST").is_none() {
         return Err(format!(
             "the static library is for x86-64 and this is {processor}; to try the crate here all \
-             the same, set HOST_LIBRARY to the folder that bench/native-library prints"
+             the same, set HOST_LIBRARY to the folder that tests/host/library --native prints"
         ));
     }
     made_by(&Path::new(env!("CARGO_MANIFEST_DIR")).join("../.."))

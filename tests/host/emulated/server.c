@@ -106,33 +106,50 @@ LENT_CALLS(run_bytes, u8, _bytes)
 
 static usize padded(usize bytes) { return (bytes + 7) & ~(usize)7; }
 
-/* What the compiled code and the static library may want of a C library. Eight bytes at a time: an
- * emulator takes a while for each step. */
+/* What the compiled code and the static library may want of a C library. 64 bytes a round: an emulator
+ * takes a while for each step, and longer for the processor's own instructions that repeat. */
+typedef u64 __attribute__((aligned(1), may_alias)) loose_u64;
+enum { ROUND = 64 };
+
+/* Without it the compiler makes of each loop a call to the function that the loop stands in. */
+#define KEEP_LOOP __asm__ volatile("" : : : "memory")
+
 void *memcpy(void *to, const void *from, usize bytes)
 {
-    void *start = to;
-    usize eights = bytes / 8, rest = bytes % 8;
-    __asm__ volatile("rep movsq" : "+D"(to), "+S"(from), "+c"(eights) : : "memory");
-    __asm__ volatile("rep movsb" : "+D"(to), "+S"(from), "+c"(rest) : : "memory");
-    return start;
+    u8 *t = to;
+    const u8 *f = from;
+    for (; bytes >= ROUND; bytes -= ROUND, t += ROUND, f += ROUND) {
+        for (usize k = 0; k < ROUND; k += 8) *(loose_u64 *)(t + k) = *(const loose_u64 *)(f + k);
+        KEEP_LOOP;
+    }
+    for (; bytes > 0; bytes--) {
+        *t++ = *f++;
+        KEEP_LOOP;
+    }
+    return to;
 }
 
 void *memset(void *to, int byte, usize bytes)
 {
-    void *start = to;
-    usize eights = bytes / 8, rest = bytes % 8;
+    u8 *t = to;
     u64 fill = 0x0101010101010101ull * (u8)byte;
-    __asm__ volatile("rep stosq" : "+D"(to), "+c"(eights) : "a"(fill) : "memory");
-    __asm__ volatile("rep stosb" : "+D"(to), "+c"(rest) : "a"(fill) : "memory");
-    return start;
+    for (; bytes >= ROUND; bytes -= ROUND, t += ROUND) {
+        for (usize k = 0; k < ROUND; k += 8) *(loose_u64 *)(t + k) = fill;
+        KEEP_LOOP;
+    }
+    for (; bytes > 0; bytes--) {
+        *t++ = (u8)byte;
+        KEEP_LOOP;
+    }
+    return to;
 }
 
 void *memmove(void *to, const void *from, usize bytes)
 {
-    if ((usize)to <= (usize)from) return memcpy(to, from, bytes);
+    if ((usize)to <= (usize)from || (usize)to >= (usize)from + bytes) return memcpy(to, from, bytes);
     for (usize k = bytes; k > 0; k--) {
         ((u8 *)to)[k - 1] = ((const u8 *)from)[k - 1];
-        __asm__ volatile("" : : : "memory");
+        KEEP_LOOP;
     }
     return to;
 }

@@ -13,8 +13,6 @@ use std::fmt::Debug;
 pub const GUARD: usize = 8;
 /// Descriptions whose conversions are at most so many go to the original with no line changed.
 const UNCHANGED_CONVERSIONS: u64 = 300;
-/// Tables of at most so many words are always lent as bytes too, longer ones now and then.
-const SMALL_TABLE: usize = 512;
 
 pub struct Run {
     pub port: Port,
@@ -24,6 +22,8 @@ pub struct Run {
     /// The number of random cases, a unit that the sections take multiples of.
     pub cases: u64,
     pub quick: bool,
+    /// One call in so many is made over bytes too.
+    pub bytes_once_in: u64,
 }
 
 /// A table to be asked about.
@@ -62,8 +62,10 @@ impl Run {
             Leaf::Record { infos: words, .. } | Leaf::Variant { cases: words, .. } => {
                 let bytes = bytes_of(words);
                 self.call(port::leaf(leaf, Cell::Word, &bytes), &[], expected, &[]);
-                let bytes = self.bytes_with_tail(words);
-                self.call(port::leaf(leaf, Cell::Byte, &bytes), &[], expected, &[]);
+                if self.random.once_in(self.bytes_once_in) {
+                    let bytes = self.bytes_with_tail(words);
+                    self.call(port::leaf(leaf, Cell::Byte, &bytes), &[], expected, &[]);
+                }
             }
             _ => self.call(port::leaf(leaf, Cell::Word, &[]), &[], expected, &[]),
         }
@@ -115,7 +117,7 @@ impl Run {
             model.answer,
             &after,
         );
-        if words.len() <= SMALL_TABLE || self.random.once_in(8) {
+        if self.random.once_in(self.bytes_once_in) {
             self.build_bytes(&description, room);
         }
         model.after[GUARD..GUARD + room].to_vec()
@@ -163,7 +165,7 @@ impl Run {
             said,
             &after,
         );
-        if table.len() <= SMALL_TABLE || self.random.once_in(16) {
+        if self.random.once_in(self.bytes_once_in) {
             self.ask_bytes(subject, question, said);
         }
     }
@@ -174,11 +176,13 @@ impl Run {
         let words = self.lent(room);
         let before = self.bytes_with_tail(&words);
         let lent = 4 * GUARD..before.len() - 4 * GUARD;
-        let mut words = model::words_of(&before[lent.clone()]);
-        // The answer cannot differ from `said`: a tail adds no whole word.
-        let _ = model::ask(question, &subject.table, subject.n, &mut words);
         let mut expected = before.clone();
-        expected[lent.start..lent.start + 4 * words.len()].copy_from_slice(&bytes_of(&words));
+        if room > 0 {
+            let mut words = model::words_of(&before[lent.clone()]);
+            // The answer cannot differ from `said`: a tail adds no whole word.
+            let _ = model::ask(question, &subject.table, subject.n, &mut words);
+            expected[lent.start..lent.start + 4 * words.len()].copy_from_slice(&bytes_of(&words));
+        }
         let lists = question.lists().map(|list| self.bytes_with_tail(list));
         let lists = lists.each_ref().map(|list| &list[..]);
         self.call(
@@ -369,8 +373,9 @@ fn judge_port(tally: &mut Tally, fault: Option<Fault>, mut answered: Answered) {
     Fault::after(fault, &mut answered);
     let said = answered.expected_answer;
     let same = answered.answer == said && answered.after == answered.expected_after;
-    let by_bytes = answered.call.cell == Cell::Byte;
-    tally.answer(same, by_bytes, || {
+    let Call { function, cell, .. } = answered.call;
+    tally.coverage.asked(function, cell, said);
+    tally.answer(same, cell == Cell::Byte, || {
         let after = answered.after.iter().zip(answered.expected_after);
         let memory = match after.clone().position(|(port, model)| port != model) {
             Some(place) => format!(

@@ -1,6 +1,7 @@
 //! Faults put into the port's answers, or the original's, to show that the comparison catches them.
 use crate::compare::GUARD;
 use crate::encode;
+use crate::model::MOST_WORDS;
 use crate::port::{Answered, Call, Cell, Function};
 
 /// What is wrong on purpose.
@@ -24,6 +25,10 @@ pub enum Fault {
     Saturates,
     /// The byte after the table's last whole word is written.
     ByteTail,
+    /// A table of more than 16,384 words is refused over bytes, as if its rows were not there.
+    LongTable,
+    /// The last byte of a buffer of more than 16,384 words is changed over bytes.
+    LongBuffer,
     /// Rounding gives one alignment too much at a multiple.
     Rounding,
     /// The original's rows have a size one too great.
@@ -32,7 +37,7 @@ pub enum Fault {
     OriginalList,
 }
 
-pub const FAULTS: [Fault; 12] = [
+pub const FAULTS: [Fault; 14] = [
     Fault::OffsetOneOff,
     Fault::PositionOneOff,
     Fault::TableWord,
@@ -42,6 +47,8 @@ pub const FAULTS: [Fault; 12] = [
     Fault::LowerPointer,
     Fault::Saturates,
     Fault::ByteTail,
+    Fault::LongTable,
+    Fault::LongBuffer,
     Fault::Rounding,
     Fault::OriginalSize,
     Fault::OriginalList,
@@ -57,37 +64,45 @@ impl Fault {
 
     /// What is wrong with what came back.
     pub fn after(fault: Option<Fault>, answered: &mut Answered) {
-        let Some(fault) = fault else {
-            return;
-        };
+        if let Some(fault) = fault {
+            fault.in_memory(answered);
+            fault.in_answer(&answered.call, &mut answered.answer);
+        }
+    }
+
+    /// A byte of the lent memory is changed.
+    fn in_memory(self, answered: &mut Answered) {
         let Answered {
             call,
             answer,
             after,
             ..
         } = answered;
-        let function = call.function;
-        let refusal = encode::refusal(*answer);
         let references = call.slices[1].len() / 4;
         let words = call.cell == Cell::Word;
-        match (fault, function) {
-            (Fault::OffsetOneOff, Function::Placement) if refusal == 0 && references > 0 => {
-                after[offset(references - 1)] ^= 1;
+        // The guards go off at both ends.
+        let lent = after.len().saturating_sub(2 * offset(0));
+        let last = offset(0) + lent.saturating_sub(1);
+        let place = match (self, call.function) {
+            (Fault::OffsetOneOff, Function::Placement)
+                if encode::refusal(*answer) == 0 && references > 0 =>
+            {
+                offset(references - 1)
             }
-            (Fault::BufferTail, Function::Placement) => {
-                let tail = offset(references);
-                if tail < after.len() - offset(0) {
-                    after[tail] ^= 1;
-                }
-            }
-            (Fault::TableWord, Function::Build) if words && after.len() > 2 * offset(0) => {
-                let last = after.len() - offset(0) - 1;
-                after[last] ^= 1;
-            }
-            (Fault::ByteTail, Function::Build) if !words && after.len() % 4 != 0 => {
-                let last = after.len() - offset(0) - 1;
-                after[last] ^= 1;
-            }
+            (Fault::BufferTail, Function::Placement) if lent > 4 * references => offset(references),
+            (Fault::TableWord, Function::Build) if words && lent > 0 => last,
+            (Fault::ByteTail, Function::Build) if !words && lent % 4 != 0 => last,
+            (Fault::LongBuffer, Function::Placement) if !words && lent >= BEYOND => last,
+            _ => return,
+        };
+        after[place] ^= 1;
+    }
+
+    fn in_answer(self, call: &Call, answer: &mut u64) {
+        let function = call.function;
+        let refusal = encode::refusal(*answer);
+        let is_question = function as u32 > Function::Build as u32;
+        match (self, function) {
             (Fault::LowerPointer, Function::AsyncReturnParams) => {
                 let [lift_memory, _, lower_memory, ..] = call.numbers;
                 let count = *answer >> 40;
@@ -104,10 +119,19 @@ impl Fault {
             (Fault::Saturates, Function::FixedLengthList) if refusal == 6 => {
                 *answer = u64::from(u32::MAX);
             }
-            (Fault::WrongRefusal, _) if refusal == 8 && function as u32 > 11 => {
+            (Fault::WrongRefusal, _) if refusal == 8 && is_question => {
                 *answer = *answer & (u64::MAX >> 8) | 4 << 56;
             }
-            (Fault::PositionOneOff, _) if refusal != 0 && function as u32 >= 11 => *answer += 1,
+            (Fault::PositionOneOff, _)
+                if refusal != 0 && (is_question || function == Function::Build) =>
+            {
+                *answer += 1;
+            }
+            (Fault::LongTable, _) if refusal == 0 && is_question => {
+                if call.cell == Cell::Byte && call.slices[0].len() >= BEYOND {
+                    *answer = 8 << 56;
+                }
+            }
             _ => {}
         }
     }
@@ -126,6 +150,9 @@ impl Fault {
         answer
     }
 }
+
+/// Bytes of one word more than a byte call looks at.
+const BEYOND: usize = 4 * (MOST_WORDS + 1);
 
 /// Where a word of lent memory stands among its bytes, guards before it.
 fn offset(word: usize) -> usize {

@@ -86,18 +86,37 @@ fn elements(random: &mut Random, large: bool) -> u32 {
     }
 }
 
-/// One word changed, dropped or added.
+/// A description with one thing wrong, or up to three.
 pub fn damaged(random: &mut Random, words: &[u32]) -> Vec<u32> {
     let mut words = words.to_vec();
-    let place = random.below(words.len() as u64 + 1) as usize;
-    match random.below(3) {
-        0 if place < words.len() => words[place] = any_word(random),
-        1 if place < words.len() => {
-            words.remove(place);
-        }
-        _ => words.insert(place, any_word(random)),
+    for _ in 0..random.pick(&[1, 1, 1, 2, 3]) {
+        damage(random, &mut words);
     }
     words
+}
+
+/// One word changed, dropped, added or exchanged with another, or the end cut off.
+fn damage(random: &mut Random, words: &mut Vec<u32>) {
+    let place = random.below(words.len() as u64 + 1) as usize;
+    if place == words.len() {
+        words.push(any_word(random));
+        return;
+    }
+    match random.below(7) {
+        0 | 1 => words[place] = any_word(random),
+        // A near miss: one more, one fewer, or one bit.
+        2 => words[place] = words[place].wrapping_add(random.pick(&[1, u32::MAX])),
+        3 => words[place] ^= 1 << random.below(32),
+        4 => words.insert(place, any_word(random)),
+        5 => {
+            words.remove(place);
+        }
+        _ if random.once_in(2) => words.truncate(place),
+        _ => {
+            let other = random.below(words.len() as u64) as usize;
+            words.swap(place, other);
+        }
+    }
 }
 
 /// Words near every boundary, and any at all.

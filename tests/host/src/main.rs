@@ -3,6 +3,7 @@
 
 mod calls;
 mod compare;
+mod coverage;
 mod differences;
 mod encode;
 mod faults;
@@ -27,6 +28,9 @@ use random::Random;
 use std::panic::{AssertUnwindSafe, catch_unwind};
 use std::process::ExitCode;
 use tally::{Caught, Tally};
+
+/// One call in so many is made over bytes too in a quick run; in a whole run each is.
+const QUICK_BYTES: u64 = 2;
 
 fn main() -> ExitCode {
     let options = match Options::read(std::env::args().skip(1)) {
@@ -77,12 +81,19 @@ fn compare(options: &Options) -> ExitCode {
     let mut run = new_run(options, port, options.fault, false);
     sections(&mut run, options);
     let differences = run.tally.differences;
+    let missing = match options.only.as_str() {
+        "" => run.tally.coverage.missing(),
+        _ => vec![],
+    };
     eprintln!();
+    for call in &missing {
+        println!("never asked: {call}");
+    }
     if cfg!(feature = "stand-in") {
         println!("the model stood in for the port: nothing is learnt about the port");
     }
     println!("{}", run.tally.summary());
-    ExitCode::from(u8::from(differences > 0))
+    ExitCode::from(u8::from(differences > 0 || !missing.is_empty()))
 }
 
 /// Runs with each fault in turn until the first difference, which there must be.
@@ -123,6 +134,7 @@ fn new_run(options: &Options, port: Port, fault: Option<Fault>, stop_at_first: b
         tally: Tally::new(stop_at_first),
         cases: options.cases,
         quick: options.quick,
+        bytes_once_in: if options.quick { QUICK_BYTES } else { 1 },
     }
 }
 

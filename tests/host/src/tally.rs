@@ -1,4 +1,5 @@
 //! What was compared and what differed, and the line that says so while a run goes on.
+use crate::coverage::Coverage;
 use std::io::{IsTerminal, Write};
 use std::time::{Duration, Instant};
 
@@ -20,6 +21,7 @@ pub struct Tally {
     pub panicked: u64,
     pub saturated: u64,
     pub differences: u64,
+    pub coverage: Coverage,
     pub section: &'static str,
     /// The first difference ends the run.
     stop_at_first: bool,
@@ -43,6 +45,7 @@ impl Tally {
             panicked: 0,
             saturated: 0,
             differences: 0,
+            coverage: Coverage::new(),
             section: "",
             stop_at_first,
             began: Instant::now(),

@@ -31,6 +31,13 @@ pub enum Function {
     ContainsBorrow = 22,
 }
 
+impl Function {
+    /// Whether it has a twin over bytes.
+    pub fn is_lent_memory(self) -> bool {
+        self as u32 >= Function::Record as u32
+    }
+}
+
 /// The most numbers and the most slices that a call takes.
 pub const NUMBERS: usize = 8;
 pub const SLICES: usize = 3;

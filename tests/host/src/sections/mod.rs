@@ -1,6 +1,7 @@
 //! What is compared, section by section.
 use crate::compare::Run;
 
+mod beyond;
 mod examples;
 mod leaves;
 mod limits;
@@ -11,7 +12,7 @@ mod sizes;
 mod tables;
 
 /// A section's name and what it runs.
-pub const SECTIONS: [(&str, fn(&mut Run)); 12] = [
+pub const SECTIONS: [(&str, fn(&mut Run)); 13] = [
     ("01's examples", examples::run),
     ("leaves over numbers", leaves::numbers),
     ("leaves over infos", leaves::infos),
@@ -24,4 +25,5 @@ pub const SECTIONS: [(&str, fn(&mut Run)); 12] = [
     ("buffers and byte lengths", limits::buffers),
     ("limits of questions", limits::questions),
     ("tables no build wrote", tables::run),
+    ("longer than byte calls look at", beyond::run),
 ];

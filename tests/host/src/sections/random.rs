@@ -20,7 +20,7 @@ pub fn run(run: &mut Run) {
         let mut built = run.description(&words);
         questions::some(run, &mut built.subject);
         rooms(run, &words, built.subject.n as usize);
-        for _ in 0..2 {
+        for _ in 0..6 {
             let damaged = generate::damaged(&mut run.random, &words);
             let mut built = run.description(&damaged);
             if run.random.once_in(8) {

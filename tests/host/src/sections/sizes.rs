@@ -3,6 +3,7 @@
 use super::questions;
 use crate::calls::Question;
 use crate::compare::Run;
+use crate::random::Random;
 
 pub fn run(run: &mut Run) {
     let nearest = if run.quick { 20 } else { 70 };
@@ -43,6 +44,73 @@ pub fn run(run: &mut Run) {
             run.description(&words);
         }
     }
+    for _ in 0..run.cases {
+        random_sums(run);
+    }
+}
+
+/// Random parts that come to 4 GiB but for a few bytes, in random orders among small ones.
+fn random_sums(run: &mut Run) {
+    let (mut base, parts) = random_parts(&mut run.random);
+    // Empty ones of each alignment.
+    base.extend([10, 2, 0, 10, 4, 0, 10, 6, 0, 10, 8, 0]);
+    let whole = 64 + parts + 4;
+    for _ in 0..2 {
+        let members = random_order(&mut run.random, parts);
+        let mut words = base.clone();
+        words.extend([run.random.pick(&[1, 4]), members.len() as u32]);
+        words.extend(&members);
+        words.extend(match run.random.below(6) {
+            0 => vec![8, whole],
+            1 => vec![10, whole, run.random.below(3) as u32],
+            2 => vec![9, whole, 64],
+            3 => vec![5, 64, whole],
+            4 => vec![2, 3, u32::MAX, whole, 8],
+            _ => vec![1, 2, whole, run.random.pick(&[2, 8, whole - 1])],
+        });
+        let mut built = run.description(&words);
+        for memory in [0, 1] {
+            let question = Question::Placement {
+                memory,
+                references: members.clone(),
+                room: members.len(),
+            };
+            run.ask(&mut built.subject, &question);
+        }
+    }
+}
+
+/// Fixed lists, one to four of them, that together have 4 GiB within forty bytes in one of the memories.
+fn random_parts(random: &mut Random) -> (Vec<u32>, u32) {
+    // A String takes 8 or 16 bytes.
+    const ELEMENTS: [(u32, u64); 6] = [(2, 1), (4, 2), (6, 4), (8, 8), (12, 8), (12, 16)];
+    let parts = random.between(1, 4);
+    let mut left = (1_u64 << 32) - 40 + random.below(80);
+    let mut words = Vec::new();
+    for part in 1..=parts {
+        let (element, size) = random.pick(&ELEMENTS);
+        let bytes = match part == parts {
+            true => left,
+            false => random.below(left),
+        };
+        let count = (bytes / size).min(u32::MAX.into());
+        left -= count * size;
+        words.extend([10, element, count as u32]);
+    }
+    (words, parts as u32)
+}
+
+/// The parts once each and a few small ones, in any order.
+fn random_order(random: &mut Random, parts: u32) -> Vec<u32> {
+    let mut members: Vec<u32> = (64..64 + parts).collect();
+    let empty = 64 + parts;
+    for _ in 0..random.below(5) {
+        members.push(random.pick(&[2, 4, 6, 8, 12, empty, empty + 1, empty + 2, empty + 3]));
+    }
+    for place in (1..members.len()).rev() {
+        members.swap(place, random.below(place as u64 + 1) as usize);
+    }
+    members
 }
 
 /// One more definition of each kind over the large one, which is refused or just accepted.

@@ -2,7 +2,7 @@
 use super::questions;
 use crate::calls::Question;
 use crate::compare::Run;
-use crate::generate;
+use crate::generate::{self, Shape};
 use crate::model::{MOST_ROWS, ROW};
 
 pub fn run(run: &mut Run) {
@@ -12,19 +12,43 @@ pub fn run(run: &mut Run) {
         let table = rows_of(run, rows);
         let mut subject = run.forged(table, rows as u32);
         questions::some(run, &mut subject);
-    }
-    for _ in 0..run.cases / 4 {
         let rows = run.random.between(1, 4);
-        let mut table = rows_of(run, rows);
-        let place = run.random.below(table.len() as u64) as usize;
-        table[place] = match run.random.once_in(2) {
-            true => generate::any_word(&mut run.random),
-            false => table[place] ^ 1 << run.random.below(32),
-        };
-        let mut subject = run.forged(table, rows as u32);
-        questions::some(run, &mut subject);
+        let table = rows_of(run, rows);
+        one_word_changed(run, table);
+        built_and_changed(run);
     }
     numbers_of_rows(run);
+}
+
+fn one_word_changed(run: &mut Run, mut table: Vec<u32>) {
+    let place = run.random.below(table.len() as u64) as usize;
+    table[place] = match run.random.once_in(2) {
+        true => generate::any_word(&mut run.random),
+        false => table[place] ^ 1 << run.random.below(32),
+    };
+    let rows = (table.len() / ROW) as u32;
+    // Now and then another number of rows: fewer, or more than there are.
+    let n = match run.random.once_in(4) {
+        true => run.random.below(u64::from(rows) + 2) as u32,
+        false => rows,
+    };
+    let mut subject = run.forged(table, n);
+    questions::some(run, &mut subject);
+}
+
+/// The rows of a description, which refer to each other as no random ones do, and one word changed.
+fn built_and_changed(run: &mut Run) {
+    let shape = Shape {
+        definitions: run.random.between(1, 6),
+        members: run.random.between(1, 5),
+        large: run.random.once_in(4),
+    };
+    let words = generate::description(&mut run.random, shape);
+    let built = run.description(&words);
+    let rows = built.subject.n as usize;
+    if rows > 0 {
+        one_word_changed(run, built.subject.table[..ROW * rows].to_vec());
+    }
 }
 
 fn rows_of(run: &mut Run, rows: u64) -> Vec<u32> {

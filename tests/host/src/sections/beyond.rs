@@ -1,0 +1,119 @@
+//! Tables, lists and buffers longer than a call over bytes looks at, which is 16,384 words of a table or a
+//! buffer and 16,385 references: it must answer as if it had looked at all. Each call is made over bytes
+//! too.
+use super::questions;
+use crate::calls::Question;
+use crate::compare::{Run, Subject};
+use crate::generate;
+use crate::model::{MOST_ROWS, MOST_WORDS, ROW};
+
+/// Lengths in words around the limit and well beyond it.
+const LENGTHS: [usize; 8] = [
+    MOST_WORDS - 1,
+    MOST_WORDS,
+    MOST_WORDS + 1,
+    MOST_WORDS + 2,
+    MOST_WORDS + ROW - 1,
+    MOST_WORDS + ROW,
+    MOST_WORDS + ROW + 1,
+    20_000,
+];
+
+pub fn run(run: &mut Run) {
+    let usual = std::mem::replace(&mut run.bytes_once_in, 1);
+    tables(run);
+    lists(run);
+    buffers(run);
+    builds(run);
+    run.bytes_once_in = usual;
+}
+
+/// Each table with every number of rows that could be taken for good.
+fn tables(run: &mut Run) {
+    let rows: Vec<u32> = (0..LENGTHS[7].div_ceil(ROW))
+        .flat_map(|_| generate::row(&mut run.random))
+        .collect();
+    let last = 64 + MOST_ROWS as u32 - 1;
+    let references = [12, 64, last - 1, last, last + 1, 64 + 1_249];
+    for length in LENGTHS {
+        let there = (length / ROW) as u32;
+        for n in [0, 1, 1_023, 1_024, 1_025, there, there + 1, u32::MAX] {
+            let mut subject = run.forged(rows[..length].to_vec(), n);
+            let asked = match run.quick {
+                true => vec![run.random.pick(&references)],
+                false => references.to_vec(),
+            };
+            for reference in asked {
+                questions::whole_type(run, &mut subject, reference);
+                questions::lists(run, &mut subject, &[2, reference], &[last]);
+            }
+        }
+    }
+}
+
+/// Lists of each length, good but for one reference, beside a short list and beside themselves.
+fn lists(run: &mut Run) {
+    let mut built = run.description(&[1, 2, 2, 12, 8, 64, 6, 9, 3, 14]);
+    // A table of 1,025 rows is refused, but only after a list that is too long.
+    let mut forged = run.forged(vec![1; ROW], 1_025);
+    for length in LENGTHS {
+        let places = [0, 1, MOST_WORDS - 1, MOST_WORDS, MOST_WORDS + 1, length - 1];
+        let places = match run.quick {
+            true => vec![run.random.pick(&places)],
+            false => places.to_vec(),
+        };
+        let good = vec![2; length];
+        whole_lists(run, &mut built.subject, &good);
+        whole_lists(run, &mut forged, &good);
+        for place in places.into_iter().filter(|place| *place < length) {
+            let mut list = generate::references(&mut run.random, 4, length as u64, u64::MAX);
+            list[place] = run.random.pick(&[18, 63, 68, u32::MAX]);
+            whole_lists(run, &mut built.subject, &list);
+        }
+    }
+}
+
+fn whole_lists(run: &mut Run, subject: &mut Subject, list: &[u32]) {
+    questions::lists(run, subject, list, &[64, 18]);
+    questions::lists(run, subject, &[64, 2], list);
+    questions::lists(run, subject, list, list);
+}
+
+/// Placements in buffers of each length: what is not an offset keeps its bytes to the very end.
+fn buffers(run: &mut Run) {
+    let mut built = run.description(&[1, 2, 2, 12, 10, 2, 1 << 18]);
+    let subject = &mut built.subject;
+    for room in LENGTHS {
+        for count in [0, 1, 9, MOST_WORDS - 1, MOST_WORDS, MOST_WORDS + 1, room] {
+            // The last one's end passes 4 GiB after 16,383 of them.
+            for member in [2, 12, 64, 65] {
+                for memory in [0, 1] {
+                    let references = vec![member; count];
+                    let question = Question::Placement {
+                        memory,
+                        references,
+                        room,
+                    };
+                    run.ask(subject, &question);
+                }
+            }
+        }
+    }
+}
+
+/// Builds in tables of each length, and of descriptions of each length.
+fn builds(run: &mut Run) {
+    for room in LENGTHS {
+        for definitions in [0, 1, MOST_ROWS - 1, MOST_ROWS, MOST_ROWS + 1] {
+            let mut words = [10, 12, 3].repeat(definitions);
+            run.build_in(&words, room);
+            words.push(99);
+            run.build_in(&words, room);
+        }
+        for length in LENGTHS {
+            let mut words = vec![1, length as u32 - 2];
+            words.resize(length, 12);
+            run.build_in(&words, room);
+        }
+    }
+}
