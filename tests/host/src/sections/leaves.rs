@@ -91,6 +91,8 @@ pub fn infos(run: &mut Run) {
         }
         variant(run, cases);
     }
+    record(run, vec![]);
+    variant(run, vec![]);
     // Words after the last whole info or case are not read.
     for extra in 1..6 {
         record(
