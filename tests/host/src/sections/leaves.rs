@@ -47,34 +47,19 @@ fn places() -> Vec<u32> {
 
 pub fn infos(run: &mut Run) {
     next_fields(run);
-    let words = [
-        0,
-        1,
-        2,
-        3,
-        4,
-        5,
-        6,
-        7,
-        8,
-        9,
-        12,
-        16,
-        17,
-        18,
-        255,
-        256,
-        257,
-        u32::MAX,
-    ];
+    // Every word of an info by itself, against a good one.
     for place in 0..5 {
-        // Every word of an info by itself, against a good one.
-        for word in words {
+        for word in (0..10).chain([12, 16, 17, 18, 255, 256, 257, u32::MAX]) {
             let mut info: Info = [8, 4, 16, 8, 2];
             info[place] = word;
             every_leaf_of(run, info);
         }
     }
+    random_infos(run);
+    slices_of_infos(run);
+}
+
+fn random_infos(run: &mut Run) {
     for _ in 0..run.cases {
         let info = generate::info(&mut run.random);
         every_leaf_of(run, info);
@@ -91,24 +76,20 @@ pub fn infos(run: &mut Run) {
         }
         variant(run, cases);
     }
+}
+
+/// Slices of no info, of one and a piece of another, and of very many.
+fn slices_of_infos(run: &mut Run) {
     record(run, vec![]);
     variant(run, vec![]);
     // Words after the last whole info or case are not read.
     for extra in 1..6 {
-        record(
-            run,
-            [8, 4, 16, 8, 2]
-                .into_iter()
-                .chain((3..).take(extra))
-                .collect(),
-        );
-        variant(
-            run,
-            [1, 8, 4, 16, 8, 2]
-                .into_iter()
-                .chain((3..).take(extra))
-                .collect(),
-        );
+        let mut info = vec![8, 4, 16, 8, 2];
+        info.extend((3..).take(extra));
+        record(run, info);
+        let mut case = vec![1, 8, 4, 16, 8, 2];
+        case.extend((3..).take(extra));
+        variant(run, case);
     }
     // A slice of infos has no limit of its own.
     let member = [1, 1, 1, 1, 1];

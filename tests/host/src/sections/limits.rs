@@ -1,7 +1,7 @@
 //! Every limit: words, rows, depth, references, buffers, bytes.
 use super::questions;
 use crate::calls::{PARTS, Question};
-use crate::compare::{Run, bytes_of};
+use crate::compare::{Run, Subject, bytes_of};
 use crate::generate::{self, Shape};
 use crate::model::{MOST_ROWS, MOST_WORDS, ROW};
 
@@ -175,6 +175,10 @@ pub fn questions(run: &mut Run) {
             }
         }
     }
+    lists_of_each_length(run, subject);
+}
+
+fn lists_of_each_length(run: &mut Run, subject: &mut Subject) {
     for length in [0, 1, 7, 8, 9, MOST_WORDS - 1, MOST_WORDS, MOST_WORDS + 1] {
         for member in [2, 8, 12, 64, 200, 67] {
             let long = vec![member; length];
@@ -192,7 +196,7 @@ pub fn questions(run: &mut Run) {
     }
 }
 
-fn many_rooms(run: &mut Run, subject: &mut crate::compare::Subject, references: &[u32]) {
+fn many_rooms(run: &mut Run, subject: &mut Subject, references: &[u32]) {
     let length = references.len();
     for room in [
         0,

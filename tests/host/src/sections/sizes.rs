@@ -32,7 +32,14 @@ pub fn run(run: &mut Run) {
             &[10, 12, count, 10, 2, 0, 10, 4, 0, 10, 6, 0, 10, 8, 0, 3, 2],
         );
     }
-    // Halves and thirds that are put together.
+    equal_parts(run);
+    for _ in 0..run.cases {
+        random_sums(run);
+    }
+}
+
+/// Halves and thirds that are put together.
+fn equal_parts(run: &mut Run) {
     for parts in 2..6_u64 {
         for more in 0..4 {
             let count = ((1_u64 << 32) / parts + more).saturating_sub(2) as u32;
@@ -43,9 +50,6 @@ pub fn run(run: &mut Run) {
             words.extend([8, 64, 5, 64, 64, 4, 2, 64, 64]);
             run.description(&words);
         }
-    }
-    for _ in 0..run.cases {
-        random_sums(run);
     }
 }
 

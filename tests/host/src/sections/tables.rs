@@ -57,36 +57,26 @@ fn rows_of(run: &mut Run, rows: u64) -> Vec<u32> {
         .collect()
 }
 
+/// Well-formed rows: five flat types, three, sixteen, and none.
+const GOOD: [[u32; ROW]; 4] = [
+    [1, 16, 4, 24, 8, 5, 0, 0x15, 0, 0, 0, 0, 0, 0, 0, 1],
+    [9, 16, 8, 24, 8, 3, 4, 20, 1, 8, 8, 0, 0, 0, 0, 0],
+    SIXTEEN,
+    [4, 68, 4, 68, 4, 255, 0, 0, 0, 0, 0, 0, 0, 0, 0, 0],
+];
+const SIXTEEN: [u32; ROW] = {
+    let mut row = [10, 64, 4, 64, 4, 16, 0, 0, 0, 0, 0, 0, 0, 0, 0, 0];
+    (row[6], row[7]) = (0xAAAA_AAAA, u32::MAX);
+    row
+};
+
 /// Every word of a good row changed to each of many values.
 fn each_word(run: &mut Run) {
-    let good: [[u32; 16]; 4] = [
-        [1, 16, 4, 24, 8, 5, 0, 0x15, 0, 0, 0, 0, 0, 0, 0, 1],
-        [9, 16, 8, 24, 8, 3, 4, 20, 1, 8, 8, 0, 0, 0, 0, 0],
-        [
-            10,
-            64,
-            4,
-            64,
-            4,
-            16,
-            0xAAAA_AAAA,
-            u32::MAX,
-            0,
-            0,
-            0,
-            0,
-            0,
-            0,
-            0,
-            0,
-        ],
-        [4, 68, 4, 68, 4, 255, 0, 0, 0, 0, 0, 0, 0, 0, 0, 0],
-    ];
     let values = (0..=34).chain([63, 64, 127, 128, 255, 256, 257, 511, 1 << 16, 1 << 31]);
     let values: Vec<u32> = values
         .chain([u32::MAX - 7, u32::MAX - 1, u32::MAX])
         .collect();
-    for row in good {
+    for row in GOOD {
         for place in 0..ROW {
             for value in &values {
                 let mut table = row.to_vec();
@@ -99,18 +89,22 @@ fn each_word(run: &mut Run) {
                 questions::lists(run, &mut subject, &[2, 64], &[64, 18]);
             }
         }
-        // Each flat count with each bit of the flat words set by itself.
-        for count in (0..=18).chain([254, 255, 256]) {
-            for bit in 0..32 {
-                for word in [6, 7] {
-                    let mut table = row.to_vec();
-                    (table[5], table[6], table[7]) = (count, 0, 0);
-                    table[word] = 1 << bit;
-                    let mut subject = run.forged(table, 1);
-                    let k = word as u32 - 1;
-                    let reference = 64;
-                    run.ask(&mut subject, &Question::Type { reference, k });
-                }
+        each_flat_bit(run, row);
+    }
+}
+
+/// Each flat count with each bit of the flat words set by itself.
+fn each_flat_bit(run: &mut Run, row: [u32; ROW]) {
+    for count in (0..=18).chain([254, 255, 256]) {
+        for bit in 0..32 {
+            for word in [6, 7] {
+                let mut table = row.to_vec();
+                (table[5], table[6], table[7]) = (count, 0, 0);
+                table[word] = 1 << bit;
+                let mut subject = run.forged(table, 1);
+                let k = word as u32 - 1;
+                let reference = 64;
+                run.ask(&mut subject, &Question::Type { reference, k });
             }
         }
     }
