@@ -4,12 +4,11 @@ ghost use Rattle.table.specs.Means.{foundMeans};
 ghost use Rattle.build.specs.Means.{payloadMeans};
 ghost use Rattle.build.specs.Steps.{memberLook, caseLook};
 use table::DefinitionIndex;
+use table::FIRST_DEFINITION;
 use table::Found;
 use table::Info;
 use table::plain_info;
 use table::row_info;
-
-const FIRST_DEFINITION: u32 = 64;
 
 // "No payload" in a variant or result.
 const NO_PAYLOAD: u32 = 4294967295;

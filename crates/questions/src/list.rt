@@ -1,6 +1,6 @@
 // What the references of a list give together: the flat list in one memory, and whether a Borrow is reached.
 ghost use mathlib.Core.Path.{_≡_};
-ghost use mathlib.Core.Bool.{false, _||_};
+ghost use mathlib.Core.Bool.{false};
 ghost use Prim.Native.Nat.{_≤_};
 ghost use lib.ListN.{length};
 ghost use Rattle.canon.specs.Question.{noTable};
@@ -33,12 +33,6 @@ const NOTHING: Gathering = Gathering {
     borrow: false,
 };
 
-fn either(a: bool, b: bool) -> bool
-    ensures { λ r. ⌜ r ≡ (a || b) ⌝ }
-{
-    if a { true } else { b }
-}
-
 impl Gathering {
     // One more member's.
     fn with(self, info: Info, memory: Memory) -> Gathering
@@ -49,7 +43,7 @@ impl Gathering {
         let next = types.in_memory(memory);
         Gathering {
             flat: flat.append(next),
-            borrow: either(self.borrow, info.borrow),
+            borrow: self.borrow | info.borrow,
         }
     }
 }

@@ -6,6 +6,7 @@ ghost use Rattle.table.specs.Rows.{rowIn};
 ghost use Rattle.questions.specs.Means.{readingMeans};
 ghost use Rattle.questions.specs.Steps.{goodRest, goodForm};
 use table::DefinitionIndex;
+use table::FIRST_DEFINITION;
 use table::Found;
 use table::Info;
 use table::Marks;
@@ -19,9 +20,6 @@ const MOST_REFERENCES: usize = 16384;
 const MOST_ROWS: u32 = 1024;
 
 const ROW_WORDS: usize = 16;
-
-// The reference of definition 0.
-const FIRST_DEFINITION: u32 = 64;
 
 pub enum Reading {
     Info(Info),

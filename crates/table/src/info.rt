@@ -3,6 +3,9 @@
 use flat_types::FlatTypes;
 use types::Layout;
 
+// The reference to definition 0.
+pub const FIRST_DEFINITION: u32 = 64;
+
 pub struct DefinitionIndex(pub u32);
 
 pub struct MemberPosition(pub u32);

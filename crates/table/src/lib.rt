@@ -6,6 +6,7 @@ mod row;
 
 pub use cells::capacity;
 pub use info::DefinitionIndex;
+pub use info::FIRST_DEFINITION;
 pub use info::Info;
 pub use info::MemberPosition;
 pub use plain::Found;

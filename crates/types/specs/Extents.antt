@@ -1,23 +1,22 @@
 -- One memory's step, as the code takes it: for every number, and too large an end is remembered.
 -- Over aligned layouts it is canon's exact end (proofs/ExtentLaws).
 use mathlib.Core.Bool.{true, false, cond}
-use Prim.Native.Nat.{ℕ, _+_, _-_, max}
+use Prim.Native.Nat.{ℕ, _+_, _-_, _%_, max}
+use lib.Bits.{bitAnd}
 use lib.Dec.{ltb}
 use Rattle.canon.specs.Answer.{Leaf, is, no, tooLarge}
-use Rattle.canon.specs.Round.{roundUp}
 use Rattle.canon.specs.Layout.{Layout, largestNumber}
-use Rattle.canon.specs.Row.{isAlignment}
 use Rattle.types.specs.Leaves.{Field}
 use Rattle.types.specs.declared.extent.Extent.{Extent}
 use Rattle.types.specs.declared.extent.VariantExtent.{VariantExtent}
 
--- what is no alignment leaves the number as it is
-unfoldable pub rounded : ℕ → ℕ → ℕ
-rounded x a = cond (isAlignment a) (roundUp x a) x
-
--- the bits that rounding to a clears
+-- the bits that rounding to an alignment clears; of any other number seven at most
 unfoldable pub lowBits : ℕ → ℕ
-lowBits a = cond (isAlignment a) (a - 1) 0
+lowBits a = (a + 7) % 8
+
+-- the mask: `roundUp` to an alignment (proofs/RoundLaws), at most 7 more to any other number
+unfoldable pub rounded : ℕ → ℕ → ℕ
+rounded x a = (x + lowBits a) - bitAnd (x + lowBits a) (lowBits a)
 
 abbrev pub endsAt : ℕ → ℕ → Extent
 endsAt e a = record { end = e; align = a; large = false }

@@ -26,20 +26,20 @@ pub(crate) fn is_alignment(a: u32) -> bool
     }
 }
 
-// The bits that rounding clears. What is no alignment clears none.
+// The bits that rounding to an alignment clears; of any other number seven at most, and nothing branches on which it is.
 fn low_bits(a: u32) -> u64
     ensures { λ r. ⌜ r ≡ lowBits a ⌝ }
 {
-    if is_alignment(a) { a as u64 - 1 } else { 0 }
+    (a as u64 + 7) % 8
 }
 
 // The mask of the Rust, in 64 bits, where the sum cannot wrap.
 pub(crate) fn round_up(a: u32, b: u32) -> u64
     ensures { λ r. ⌜ r ≡ rounded a b ⌝ }
 {
-    let x = a as u64;
     let low = low_bits(b);
-    (x + low) & !low
+    let sum = a as u64 + low;
+    sum - (sum & low)
 }
 
 pub fn align_to(a: u32, b: u32) -> Rounded

@@ -10,12 +10,9 @@ in-memory-requires c κs = search needs
 append-requires : tie.Need-append-requires
 append-requires c κs = search needs
 
-either-requires : tie.Need-either-requires
-either-requires c κs = search needs
-
 returns : tie.Need-returns
 unfolding withInfo
-returns c = simp (c .either .ensures, c .before .append .ensures, c .before .before .in-memory .ensures)
+returns c = simp (c .before .before .append .ensures, c .before .before .before .in-memory .ensures)
 
 pub with-spec : {M : Type 1} → statement M
-with-spec = tie.close (tie.spec in-memory-requires append-requires either-requires returns)
+with-spec = tie.close (tie.spec in-memory-requires append-requires returns)
