@@ -82,7 +82,7 @@ module _ (ts : List Ty) where
       go (some c) none h e = impossible (cc)
       go (some c) (some ds) h e = let p : c ▸ ds ≡ cs = cc in rw (← p) (ap suc (h ds refl))
 
-  variant : (ws : List ℕ) (c n : ℕ) → length ws ≡ c → eqb c 0 ≡ false → variantRow (typeInfo ts) ws c ≡ rowLeaf (fitted n (lift variantOf (casesOf ts ws)))
+  variant : (ws : List ℕ) (c n : ℕ) → length ws ≡ c → eqb c 0 ≡ false → variantRow 2 (typeInfo ts) ws c ≡ rowLeaf (fitted n (lift variantOf (casesOf ts ws)))
   unfolding variantRow andThen fitted
   variant ws c n l h =
       rw (discriminant-is c h) (fold-cases ts (payloadsRow 2 (discriminant c)) addCase ws noPayloads ∙ go (casesOf ts ws) refl)
@@ -98,12 +98,10 @@ module _ (ts : List Ty) where
   option w n = one-look ts w optionRow ∙ made optionOf (reference ts w) _ n (λ t. cased-row (option-cased t) n)
 
   result : (v w n : ℕ) →
-      foldRefs (caseLook (typeInfo ts)) addCase (v ∷ w ∷ []) noPayloads (payloadsRow 9 1)
-      ≡ rowLeaf (fitted n (lift2 resultOf (caseOf ts v) (caseOf ts w)))
-  unfolding casesOf fitted
+      variantRow 9 (typeInfo ts) (v ∷ w ∷ []) 2 ≡ rowLeaf (fitted n (lift2 resultOf (caseOf ts v) (caseOf ts w)))
+  unfolding variantRow andThen casesOf fitted
   result v w n =
-      fold-cases ts (payloadsRow 9 1) addCase (v ∷ w ∷ []) noPayloads
-      ∙ go (caseOf ts v) (caseOf ts w)
+      rw (discriminant-is 2 refl) (fold-cases ts (payloadsRow 9 1) addCase (v ∷ w ∷ []) noPayloads ∙ go (caseOf ts v) (caseOf ts w))
     where
       go : (o q : Option Case) → orBad (lift2 _▸_ o (lift2 _▸_ q (some ∎))) (λ cs. payloadsRow 9 1 (foldCases addCase noPayloads cs)) ≡ rowLeaf (fitted n (lift2 resultOf o q))
       go none q = refl

@@ -14,3 +14,4 @@ pub mod DefinitionLaws
 pub mod RunLaws
 pub mod Unique
 pub mod Promises
+pub mod Arms

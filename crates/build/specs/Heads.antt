@@ -28,6 +28,32 @@ skipped kOption = 0
 skipped kResult = 0
 skipped kFixed = 0
 
+-- the words after those, to the end of the body
+abbrev pub operands : Kind → ℕ → ℕ
+operands kRecord n = n
+operands kVariant n = n
+operands kList n = 1
+operands kTuple n = n
+operands kMap n = 2
+operands kFlags n = 1
+operands kEnum n = 1
+operands kOption n = 1
+operands kResult n = 2
+operands kFixed n = 2
+
+-- the kind word, as a row has it
+abbrev pub kindWord : Kind → ℕ
+kindWord kRecord = 1
+kindWord kVariant = 2
+kindWord kList = 3
+kindWord kTuple = 4
+kindWord kMap = 5
+kindWord kFlags = 6
+kindWord kEnum = 7
+kindWord kOption = 8
+kindWord kResult = 9
+kindWord kFixed = 10
+
 -- the head of a kind whose body stands from a place on
 unfoldable pub bodyAt : Kind → List ℕ → ℕ → Leaf Heading
 bodyAt k ws from =
@@ -41,19 +67,6 @@ headKind (some k) ws from = bodyAt k ws from
 
 unfoldable pub headAt : List ℕ → ℕ → Leaf Heading
 headAt ws at = headKind (kindOf (getD ws at 0)) ws (at + 1)
-
--- the words after those, to the end of the body
-abbrev pub operands : Kind → ℕ → ℕ
-operands kRecord n = n
-operands kVariant n = n
-operands kList n = 1
-operands kTuple n = n
-operands kMap n = 2
-operands kFlags n = 1
-operands kEnum n = 1
-operands kOption n = 1
-operands kResult n = 2
-operands kFixed n = 2
 
 -- a body lies within the description
 abbrev pub Spans : Heading → ℕ → Type 0

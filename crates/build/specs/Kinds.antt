@@ -28,8 +28,9 @@ unfoldable pub flagsRow : ℕ → Leaf (List ℕ)
 flagsRow n =
     andThen (flagsAnswer n) (λ a. is (wordsWith 6 (a .layouts) (both (λ m. packed (some (flagsFlat n)))) (both (λ m. noInner)) false))
 
-unfoldable pub variantRow : (ℕ → Leaf Info) → List ℕ → ℕ → Leaf (List ℕ)
-variantRow look ws n = andThen (discriminantAnswer n) (λ d. foldRefs (caseLook look) addCase ws noPayloads (payloadsRow 2 d))
+-- a variant's row, and a result's, by the kind's word
+unfoldable pub variantRow : ℕ → (ℕ → Leaf Info) → List ℕ → ℕ → Leaf (List ℕ)
+variantRow kind look ws n = andThen (discriminantAnswer n) (λ d. foldRefs (caseLook look) addCase ws noPayloads (payloadsRow kind d))
 
 unfoldable pub enumRow : ℕ → Leaf (List ℕ)
 enumRow n = andThen (discriminantAnswer n) (λ d. payloadsRow 7 d noPayloads)
@@ -53,14 +54,14 @@ mapRow look k v = andThen (look k) (λ a. andThen (look v) (λ b. entryRow a b))
 
 unfoldable pub rowOfKind : (ℕ → Leaf Info) → List ℕ → Kind → ℕ → ℕ → Leaf (List ℕ)
 rowOfKind look ws kRecord n first = foldRefs look addMember (refsAt ws first n) noMembers (membersRow 1)
-rowOfKind look ws kVariant n first = variantRow look (refsAt ws first n) n
+rowOfKind look ws kVariant n first = variantRow 2 look (refsAt ws first n) n
 rowOfKind look ws kList n first = andThen (look (getD ws first 0)) listRow
 rowOfKind look ws kTuple n first = foldRefs look addMember (refsAt ws first n) noMembers (membersRow 4)
 rowOfKind look ws kMap n first = mapRow look (getD ws first 0) (getD ws (first + 1) 0)
 rowOfKind look ws kFlags n first = flagsRow n
 rowOfKind look ws kEnum n first = enumRow n
 rowOfKind look ws kOption n first = andThen (look (getD ws first 0)) optionRow
-rowOfKind look ws kResult n first = foldRefs (caseLook look) addCase (refsAt ws first 2) noPayloads (payloadsRow 9 1)
+rowOfKind look ws kResult n first = variantRow 9 look (refsAt ws first 2) 2
 rowOfKind look ws kFixed n first = andThen (look (getD ws first 0)) (fixedRow (getD ws (first + 1) 0))
 
 abbrev pub kindRow : (ℕ → Leaf Info) → List ℕ → Heading → Leaf (List ℕ)

@@ -37,8 +37,6 @@ pub(crate) enum Joined {
     BadRef,
 }
 
-const VARIANT: u32 = 2;
-
 const ENUM: u32 = 7;
 
 const OPTION: u32 = 8;
@@ -112,7 +110,7 @@ impl Payloads {
 }
 
 // A kind whose cases are the n references or marks from `first` on.
-pub(crate) fn cases_row(
+fn cases_row(
     words: &[u32],
     first: usize,
     n: u32,
@@ -143,13 +141,14 @@ pub(crate) fn variant_row(
     n: u32,
     table: &[u32],
     index: DefinitionIndex,
+    kind: u32,
 ) -> Rowed
     requires { ⌜ first + n ≤ length (now words) ⌝ }
-    ensures { λ r. ⌜ rowedMeans r ≡ variantRow (memberLook (now (table .entry)) (index .0)) (refsAt (now (words .entry)) first n) n ⌝ }
+    ensures { λ r. ⌜ rowedMeans r ≡ variantRow kind (memberLook (now (table .entry)) (index .0)) (refsAt (now (words .entry)) first n) n ⌝ }
 {
     match DiscriminantSize::from_count(n) {
         DiscriminantAnswer::Refused(why) => Rowed::Refused(why),
-        DiscriminantAnswer::Size(size) => cases_row(words, first, n, table, index, VARIANT, size),
+        DiscriminantAnswer::Size(size) => cases_row(words, first, n, table, index, kind, size),
     }
 }
 

@@ -6,13 +6,14 @@ ghost use Rattle.build.specs.Means.{headingMeans, rowedMeans, definedMea
 ghost use Rattle.build.specs.Heads.{Spans};
 ghost use Rattle.build.specs.Steps.{memberLook};
 ghost use Rattle.build.specs.Kinds.{kindRow, definedAt};
-use crate::cases::cases_row;
 use crate::cases::enum_row;
 use crate::cases::option_row;
 use crate::cases::variant_row;
 use crate::head::Head;
 use crate::head::Heading;
 use crate::head::Kind;
+use crate::head::kind_word;
+use crate::head::operands;
 use crate::head::read_head;
 use crate::members::map_row;
 use crate::members::members_row;
@@ -22,7 +23,6 @@ use crate::simple::flags_row;
 use crate::simple::list_row;
 use table::DefinitionIndex;
 use table::Row;
-use types::DiscriminantSize;
 use types::Refusal;
 
 // The row, with the place of the next definition.
@@ -30,13 +30,6 @@ pub(crate) enum Defined {
     Row(Row, usize),
     Refused(Refusal),
 }
-
-// The words that kinds 1, 4 and 9 have in a row.
-const RECORD: u32 = 1;
-
-const TUPLE: u32 = 4;
-
-const RESULT: u32 = 9;
 
 fn kind_row(words: &[u32], heading: Heading, table: &[u32], index: DefinitionIndex) -> Rowed
     requires { ⌜ Spans (headingMeans heading) (length (now words)) ⌝ }
@@ -46,23 +39,19 @@ fn kind_row(words: &[u32], heading: Heading, table: &[u32], index: DefinitionInd
     let first = heading.first;
     let count = heading.count;
     match kind {
-        Kind::Record => members_row(words, first, count, table, index, RECORD),
-        Kind::Variant => variant_row(words, first, count, table, index),
+        Kind::Record | Kind::Tuple => {
+            let n = operands(kind, count);
+            members_row(words, first, n, table, index, kind_word(kind))
+        }
+        Kind::Variant | Kind::Result => {
+            let n = operands(kind, count);
+            variant_row(words, first, n, table, index, kind_word(kind))
+        }
         Kind::List => list_row(words, first, table, index),
-        Kind::Tuple => members_row(words, first, count, table, index, TUPLE),
         Kind::Map => map_row(words, first, table, index),
         Kind::Flags => flags_row(count),
         Kind::Enum => enum_row(count),
         Kind::Option => option_row(words, first, table, index),
-        Kind::Result => cases_row(
-            words,
-            first,
-            2,
-            table,
-            index,
-            RESULT,
-            DiscriminantSize::Size1,
-        ),
         Kind::FixedLengthList => fixed_row(words, first, table, index),
     }
 }

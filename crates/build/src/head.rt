@@ -5,7 +5,7 @@ ghost use Prim.Native.Nat.{_+_, _≤_, _<_};
 ghost use lib.ListN.{length, getD};
 ghost use Rattle.canon.specs.Description.{kindOf, bodyLength, isBadCount};
 ghost use Rattle.build.specs.Means.{kindMeans, kindedMeans, headMeans};
-ghost use Rattle.build.specs.Heads.{skipped, bodyAt, headAt, HeadSpans};
+ghost use Rattle.build.specs.Heads.{skipped, kindWord, operands, bodyAt, headAt, HeadSpans};
 use types::Refusal;
 
 pub(crate) enum Kind {
@@ -113,6 +113,42 @@ fn before_references(kind: Kind) -> usize
         Kind::Option => 0,
         Kind::Result => 0,
         Kind::FixedLengthList => 0,
+    }
+}
+
+// The first word of a row.
+pub(crate) fn kind_word(kind: Kind) -> u32
+    ensures { λ r. ⌜ r ≡ kindWord (kindMeans kind) ⌝ }
+{
+    match kind {
+        Kind::Record => 1,
+        Kind::Variant => 2,
+        Kind::List => 3,
+        Kind::Tuple => 4,
+        Kind::Map => 5,
+        Kind::Flags => 6,
+        Kind::Enum => 7,
+        Kind::Option => 8,
+        Kind::Result => 9,
+        Kind::FixedLengthList => 10,
+    }
+}
+
+// How many words of the body stand after those before its first reference.
+pub(crate) fn operands(kind: Kind, n: u32) -> u32
+    ensures { λ r. ⌜ r ≡ operands (kindMeans kind) n ⌝ }
+{
+    match kind {
+        Kind::Record => n,
+        Kind::Variant => n,
+        Kind::List => 1,
+        Kind::Tuple => n,
+        Kind::Map => 2,
+        Kind::Flags => 1,
+        Kind::Enum => 1,
+        Kind::Option => 1,
+        Kind::Result => 2,
+        Kind::FixedLengthList => 2,
     }
 }
 
