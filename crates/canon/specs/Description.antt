@@ -80,7 +80,7 @@ plain =
 unfoldable pub reference : List Ty → ℕ → Option Ty
 reference ts w = cond (leb 64 w) (getElem? ts (w - 64)) (getElem? plain w)
 
--- "4294967295 means no payload, only in a variant or result"
+-- "4294967295 means 'no payload', only in a variant or result"
 abbrev pub mark : ℕ
 mark = 4294967295
 

@@ -11,7 +11,7 @@ use Rattle.canon.specs.Row.{Info, flatOf}
 use Rattle.canon.specs.Answer.{Answer, ok, lift2}
 use Rattle.canon.specs.Question.{ask, askTwo}
 
--- "the list, or memory when some flat count is none or the sum exceeds the maximum"
+-- "the list, or 'memory' when some flat count is none or the sum exceeds the maximum"
 pub data Flattened : Type 0 where
   listed : List Core → Flattened
   inMemory : Flattened
@@ -56,7 +56,7 @@ pub record Signature : Type 0 where
   pub params : List Core
   pub results : List Core
 
--- "Memory gives one pointer of that side's memory"
+-- "'Memory' gives one pointer of that side's memory"
 unfoldable pub orPointer : Memory → Flattened → List Core
 orPointer m (listed l) = l
 orPointer m inMemory = ptrType m ∷ []
@@ -74,7 +74,7 @@ unfoldable pub asyncStartAnswer : List ℕ → ℕ → Side → List ℕ → Sid
 asyncStartAnswer t n lower vs lift ws = askTwo t n vs ws (λ params results. ok (startOf lower params lift results))
 
 -- whether lower's results go behind a pointer: "lower is async and its result list is not empty, or is sync and flattens at maximum 1
--- to memory"
+-- to 'memory'"
 unfoldable pub behindPointer : Bool → List Info → Flattened → Bool
 behindPointer true [] f = false
 behindPointer true (i ∷ is′) f = true

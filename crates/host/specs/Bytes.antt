@@ -1,5 +1,5 @@
--- A description in lent bytes. "Above 65,536 refusal 1 at 0, not divisible by four refusal 2 at 0"; then the table is one of words, and "the bytes
--- after the last whole word are neither read nor written".
+-- A description in lent bytes (docs/HOST.md): "more than 65,536 bytes is refusal 1 at 0, one whose length four does not divide refusal 2 at 0".
+-- Then the table is one of words; "the bytes after the last whole word are neither read nor written".
 use mathlib.Core.Bool.{Bool, cond}
 use mathlib.Core.List.{List}
 use Prim.Native.Nat.{ℕ, _%_}

@@ -1,4 +1,4 @@
--- Infos and cases in lent words. "Words after the last whole info are not read."
+-- Infos and cases in lent words (docs/HOST.md). "Words after the last whole info or case are not read."
 use mathlib.Core.Bool.{cond}
 use mathlib.Core.List.{List, [], _∷_}
 use mathlib.Core.Option.{Option, none, some}
@@ -8,7 +8,7 @@ use lib.ListN.{length, getD}
 use Rattle.canon.specs.Row.{Abi}
 use Rattle.host.specs.Numbers.{abiAt}
 
--- an info, "five words": size32, align32, size64, align64, flat
+-- an info, "five words": "size32, align32, size64, align64, flat count"
 unfoldable pub infoAt : List ℕ → ℕ → Abi
 infoAt w at = abiAt (getD w at 0) (getD w (at + 1) 0) (getD w (at + 2) 0) (getD w (at + 3) 0) (getD w (at + 4) 0)
 

@@ -15,22 +15,22 @@ use Rattle.signature.specs.Packs.{PackedSignature}
 
 -- Numbers that a host passes
 
--- "0 is 32-bit, any other 64-bit"
+-- "A memory is 0 for 32-bit, any other number for 64-bit"
 abbrev pub memoryAt : ℕ → Memory
 memoryAt x = cond (eqb x 0) mem32 mem64
 
--- "0 is sync, any other async"
+-- "A side is 0 for sync, any other number for async"
 abbrev pub isSet : ℕ → Bool
 isSet x = not (eqb x 0)
 
 abbrev pub sideAt : ℕ → ℕ → Side
 sideAt memory async = record { memory = memoryAt memory; async = isSet async }
 
--- a flat count: "0 to 255 the number, anything above none"
+-- "A flat count is 0 to 255, anything above is none"
 abbrev pub flatAt : ℕ → Option ℕ
 flatAt x = cond (leb x 255) (some x) none
 
--- an info: "size32, align32, size64, align64, flat"
+-- an info: "size32, align32, size64, align64, flat count"
 abbrev pub abiAt : ℕ → ℕ → ℕ → ℕ → ℕ → Abi
 abiAt size32 align32 size64 align64 flat =
     record {
@@ -40,11 +40,11 @@ abiAt size32 align32 size64 align64 flat =
 
 -- Answers
 
--- "the refusal's number in the top byte (bits 56 to 63)", "the low 32 bits hold the index or the position"
+-- from bit 56 on "the number, 1 to 8"; "in the low 32 bits the definition's index or the reference's position, 0 for a leaf"
 abbrev pub refusalNumber : ℕ → ℕ → ℕ
 refusalNumber x p = 72057594037927936 * x + p
 
--- "Else the value stands below bit 56"
+-- an answer: "the value"
 abbrev pub answerNumber : {A : Type 0} → (A → ℕ) → Answer A → ℕ
 answerNumber value (ok a) = value a
 answerNumber value (refused x p) = refusalNumber x p
@@ -59,7 +59,7 @@ leafNumber value (no x) = refusalNumber x 0
 abbrev pub itself : ℕ → ℕ
 itself n = n
 
--- "none (answered as 256)"
+-- "none is answered as 256"
 abbrev pub flatNumber : Option ℕ → ℕ
 flatNumber none = 256
 flatNumber (some n) = n
@@ -68,7 +68,7 @@ flatNumber (some n) = n
 unfoldable pub chosen : ℕ → List ℕ → ℕ
 chosen k ws = getD ws (cond (ltb k (length ws)) k (length ws - 1)) 0
 
--- "k = 0 size32, 1 align32, 2 size64, 3 align64, 4 flat count"
+-- "k = 0 size32, 1 align32, 2 size64, 3 align64, 4 the flat count"
 abbrev pub abiWords : Abi → List ℕ
 abiWords a =
     a .layouts .in32 .size
@@ -78,15 +78,15 @@ abiWords a =
     ∷ flatNumber (a .flats)
     ∷ []
 
--- "k = 0 to 4 as above, 5 the discriminant's size, 6 and 7 the payload offsets"
+-- "k = 0 to 4 as for `flags`, 5 the bytes of the discriminant, 6 and 7 the payload offsets"
 abbrev pub variantWords : VariantAbi → List ℕ
 variantWords v = abiWords (v .abi) ++ (v .disc ∷ v .offsets .in32 ∷ v .offsets .in64 ∷ [])
 
--- "k = 0 the offset, k = 1 the moved end"
+-- "k = 0 the offset, 1 the moved end"
 abbrev pub fieldWords : Field → List ℕ
 fieldWords f = f .offset ∷ f .end ∷ []
 
--- "k = 0 to 4 as above, 5 and 6 the flat words, 7 the borrow"
+-- "k = 0 to 4 as for `flags`, 5 and 6 the flat words, 7 the borrow"
 abbrev pub typeWords : Info → List ℕ
 typeWords i =
     i .abi .layouts .in32 .size
@@ -99,11 +99,11 @@ typeWords i =
     ∷ borrowWord (i .borrow)
     ∷ []
 
--- "size in the low 32 bits, alignment in bits 32 to 39"
+-- "the size in bits 0 to 31, the alignment in bits 32 to 39"
 abbrev pub layoutNumber : Layout → ℕ
 layoutNumber f = 4294967296 * f .align + f .size
 
--- a list: "the packed types in bits 0 to 33 (two bits each, first lowest), their count in bits 40 to 47"
+-- a list: "the packed types in bits 0 to 33, two bits each and the first lowest, their count in bits 40 to 47"
 abbrev pub listNumber : Packed → ℕ
 listNumber p = 1099511627776 * p .number + p .types
 
