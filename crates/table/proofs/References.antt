@@ -19,56 +19,68 @@ use Rattle.canon.specs.Question.{plainInfo}
 use Rattle.flat_types.specs.Lists.{packed, wordsIn}
 use Rattle.flat_types.proofs.References.{below}
 use Rattle.flat_types.proofs.Rows.{rowWords, plain-words}
-use Rattle.table.specs.Means.{infoMeans}
+use Rattle.table.specs.Means.{Plain, infoMeans}
 use Rattle.table.specs.declared.info.Info.{Info}
 
--- the scalars of one, two and eight bytes have their own arm; every other one has four
+-- a scalar of n bytes, in either memory
 
 abbrev Sized : ℕ → ℕ → Type 0
-Sized n k = (m : Memory) → lift (layout m) (getElem? plain k) ≡ some (square n)
+Sized n k = ((m : Memory) → lift (layout m) (getElem? plain k) ≡ some (square n)) × (lift flatCount (getElem? plain k) ≡ some (some 1))
+
+pub as-wide : (k n : ℕ) → Sized n k → Plain k (record { layouts = record { in32 = square n; in64 = square n }; flats = some 1 })
+as-wide k n e = (wide, e .1)
+  where
+    wide : (m : Memory) → lift (layout m) (getElem? plain k) ≡ some (within m (record { in32 = square n; in64 = square n }))
+    wide mem32 = e .0 mem32
+    wide mem64 = e .0 mem64
+
+-- the scalars of one, two and eight bytes and String have their own arm; every other one has four
 
 abbrev Rest : ℕ → Type 0
-Rest k = (k ≡ 12 → ⊥) → (k ≡ 0 → ⊥) → (k ≡ 1 → ⊥) → (k ≡ 2 → ⊥) → (k ≡ 3 → ⊥) → (k ≡ 4 → ⊥) → (k ≡ 7 → ⊥) → (k ≡ 8 → ⊥) → (k ≡ 10 → ⊥) → Sized 4 k
+Rest k = (k ≡ 0 → ⊥) → (k ≡ 1 → ⊥) → (k ≡ 2 → ⊥) → (k ≡ 3 → ⊥) → (k ≡ 4 → ⊥) → (k ≡ 7 → ⊥) → (k ≡ 8 → ⊥) → (k ≡ 10 → ⊥) → (k ≡ 12 → ⊥) → Sized 4 k
+
+four : {k : ℕ} → Sized 4 k → Rest k
+four e a b c d f g h i j = e
 
 pub rest-is-four : (k : ℕ) → k ≤ 17 → Rest k
-unfolding layout
+unfolding layout flatCount
 rest-is-four k h =
     below Rest 18 (
-      λ s a b c d e f g i m. absurd (a refl),
+      λ a b c d e f g i s. absurd (a refl),
       (
-        λ s a b c d e f g i m. absurd (b refl),
+        λ a b c d e f g i s. absurd (b refl),
         (
-          λ s a b c d e f g i m. absurd (c refl),
+          λ a b c d e f g i s. absurd (c refl),
           (
-            λ s a b c d e f g i m. absurd (d refl),
+            λ a b c d e f g i s. absurd (d refl),
             (
-              λ s a b c d e f g i m. absurd (e refl),
+              λ a b c d e f g i s. absurd (e refl),
               (
-                λ s a b c d e f g i m. refl,
+                four (λ m. refl, refl),
                 (
-                  λ s a b c d e f g i m. refl,
+                  four (λ m. refl, refl),
                   (
-                    λ s a b c d e f g i m. absurd (f refl),
+                    λ a b c d e f g i s. absurd (f refl),
                     (
-                      λ s a b c d e f g i m. absurd (g refl),
+                      λ a b c d e f g i s. absurd (g refl),
                       (
-                        λ s a b c d e f g i m. refl,
+                        four (λ m. refl, refl),
                         (
-                          λ s a b c d e f g i m. absurd (i refl),
+                          λ a b c d e f g i s. absurd (i refl),
                           (
-                            λ s a b c d e f g i m. refl,
+                            four (λ m. refl, refl),
                             (
-                              λ s a b c d e f g i m. absurd (s refl),
+                              λ a b c d e f g i s. absurd (s refl),
                               (
-                                λ s a b c d e f g i m. refl,
+                                four (λ m. refl, refl),
                                 (
-                                  λ s a b c d e f g i m. refl,
+                                  four (λ m. refl, refl),
                                   (
-                                    λ s a b c d e f g i m. refl,
+                                    four (λ m. refl, refl),
                                     (
-                                      λ s a b c d e f g i m. refl,
+                                      four (λ m. refl, refl),
                                       (
-                                        λ s a b c d e f g i m. refl,
+                                        four (λ m. refl, refl),
                                         tt,
                                       ),
                                     ),
@@ -89,11 +101,6 @@ rest-is-four k h =
       ),
     )
     k (omega arith)
-
--- in either memory
-pub as-wide : (k n : ℕ) → Sized n k → (m : Memory) → lift (layout m) (getElem? plain k) ≡ some (within m (record { in32 = square n; in64 = square n }))
-as-wide k n e mem32 = e mem32
-as-wide k n e mem64 = e mem64
 
 -- only Borrow borrows
 abbrev Borrowed : ℕ → Type 0
@@ -119,10 +126,13 @@ there k h = go (getElem? plain k) (getElem?-there plain k (omega arith))
     go none n = absurd (n refl)
     go (some t) n = (t, refl)
 
-pub string-layout : {k : ℕ} → k ≡ 12 → (m : Memory) → lift (layout m) (getElem? plain k) ≡ some (within m (record { in32 = record { size = 8; align = 4 }; in64 = record { size = 16; align = 8 } }))
-unfolding layout
-string-layout e mem32 = rw e
-string-layout e mem64 = rw e
+pub string-is : {k : ℕ} → k ≡ 12 → Plain k (record { layouts = record { in32 = record { size = 8; align = 4 }; in64 = record { size = 16; align = 8 } }; flats = some 2 })
+unfolding layout flatCount
+string-is {k} e = (wide, rw e)
+  where
+    wide : (m : Memory) → lift (layout m) (getElem? plain k) ≡ some (within m (record { in32 = record { size = 8; align = 4 }; in64 = record { size = 16; align = 8 } }))
+    wide mem32 = rw e
+    wide mem64 = rw e
 
 -- an info is a type's where its layouts, its flat words and its borrow are
 pub info-is :

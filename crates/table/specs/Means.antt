@@ -1,8 +1,14 @@
 -- What this crate's values stand for.
 use mathlib.Core.Bool.{Bool}
 use mathlib.Core.List.{List, [], _∷_}
+use mathlib.Core.Option.{some}
+use mathlib.Core.Path.{_≡_}
 use Prim.Native.Nat.{ℕ}
-use Rattle.canon.specs.Answer.{Leaf, is, no, badRef}
+use lib.ListN.{getElem?}
+use Rattle.canon.specs.Answer.{Leaf, is, no, lift, badRef}
+use Rattle.canon.specs.Description.{plain}
+use Rattle.canon.specs.Flat.{flatCount}
+use Rattle.canon.specs.Layout.{Memory, within, layout}
 use Rattle.canon.specs.Row as canon
 use Rattle.canon.specs.Row.{countOf, borrowWord}
 use Rattle.types.specs.Means.{layoutMeans}
@@ -31,6 +37,11 @@ infoWith a f b =
       flat = f;
       borrow = b;
     }
+
+-- the five numbers of a reference without a definition
+abbrev pub Plain : ℕ → canon.Abi → Type 0
+Plain k a =
+    ((m : Memory) → lift (layout m) (getElem? plain k) ≡ some (within m (a .layouts))) × (lift flatCount (getElem? plain k) ≡ some (a .flats))
 
 -- 01's number of the refusal: a bad reference
 abbrev pub foundMeans : Found → Leaf canon.Info

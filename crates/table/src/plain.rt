@@ -1,14 +1,11 @@
 // What the references without a definition stand for: the scalars, String and the handles.
 ghost use mathlib.Core.Path.{_≡_};
-ghost use mathlib.Core.Option.{some};
 ghost use Prim.Native.Nat.{_≤_};
 ghost use lib.ListN.{getElem?};
-ghost use Rattle.canon.specs.Answer.{lift};
-ghost use Rattle.canon.specs.Layout.{Memory, within, layout};
 ghost use Rattle.canon.specs.Description.{plain};
 ghost use Rattle.canon.specs.Question.{plainInfo};
 ghost use Rattle.types.specs.Means.{abiMeans};
-ghost use Rattle.table.specs.Means.{foundMeans, infoWith};
+ghost use Rattle.table.specs.Means.{Plain, foundMeans, infoWith};
 use crate::info::Info;
 use flat_types::FlatTypes;
 use types::CanonicalAbiInfo;
@@ -19,15 +16,13 @@ pub enum Found {
     BadRef,
 }
 
-const STRING: u32 = 12;
-
 const BORROW: u32 = 14;
 
 const LAST: u32 = 17;
 
-fn scalar(reference: u32) -> CanonicalAbiInfo
-    requires { ⌜ (reference ≤ 17) × (reference ≡ 12 → ⊥) ⌝ }
-    ensures { λ r. ⌜ ((m : Memory) → lift (layout m) (getElem? plain reference) ≡ some (within m (abiMeans r .layouts))) ⌝ }
+fn abi(reference: u32) -> CanonicalAbiInfo
+    requires { ⌜ reference ≤ 17 ⌝ }
+    ensures { λ r. ⌜ Plain reference (abiMeans r) ⌝ }
 {
     match reference {
         0 => CanonicalAbiInfo::SCALAR1,
@@ -38,6 +33,7 @@ fn scalar(reference: u32) -> CanonicalAbiInfo
         7 => CanonicalAbiInfo::SCALAR8,
         8 => CanonicalAbiInfo::SCALAR8,
         10 => CanonicalAbiInfo::SCALAR8,
+        12 => CanonicalAbiInfo::POINTER_PAIR,
         _ => CanonicalAbiInfo::SCALAR4,
     }
 }
@@ -67,8 +63,5 @@ pub fn plain_info(reference: u32) -> Found
         return Found::BadRef;
     }
     let flat = FlatTypes::plain(reference);
-    if reference == STRING {
-        return Found::Info(info(CanonicalAbiInfo::POINTER_PAIR, flat, false));
-    }
-    Found::Info(info(scalar(reference), flat, reference == BORROW))
+    Found::Info(info(abi(reference), flat, reference == BORROW))
 }
