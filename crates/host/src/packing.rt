@@ -2,12 +2,11 @@
 ghost use mathlib.Core.Path.{_≡_};
 ghost use Prim.Native.Nat.{_<_};
 ghost use lib.ListN.{length};
-ghost use Rattle.canon.specs.Row.{countOf, borrowWord};
+ghost use Rattle.canon.specs.Row.{borrowWord};
 ghost use Rattle.types.specs.Means.{numberOf, bytesOf, roundedMeans, countMeans, discriminantMeans, abiMeans, infoMeans as abiAnswerMeans, variantMeans, nextMeans};
 ghost use Rattle.flat_types.specs.Lists.{words};
-ghost use Rattle.table.specs.Means.{infoMeans};
 ghost use Rattle.build.specs.Means.{builtMeans};
-ghost use Rattle.questions.specs.Means.{typeMeans, answerMeans as layoutAnswerMeans};
+ghost use Rattle.questions.specs.Means.{typeInfoMeans, typeMeans, answerMeans as layoutAnswerMeans};
 ghost use Rattle.signature.specs.Means.{flattenedMeans, borrowMeans, answerMeans as signatureAnswerMeans};
 ghost use Rattle.host.specs.Numbers.{refusalNumber, answerNumber, leafNumber, itself, flatNumber, chosen, abiWords, variantWords, fieldWords, typeWords, layoutNumber, listNumber, flattenedNumber, paramsNumber, resultsNumber};
 ghost use Rattle.host.specs.Short.{ShortList, ShortFlat, ShortSignature, IfAnswered};
@@ -15,10 +14,10 @@ use build::Built;
 use flat_types::FlatList;
 use questions::LayoutAnswer;
 use questions::TypeAnswer;
+use questions::TypeInfo;
 use signature::BorrowAnswer;
 use signature::Flattened;
 use signature::SignatureAnswer;
-use table::Info;
 use types::CanonicalAbiInfo;
 use types::DiscriminantAnswer;
 use types::FlatCount;
@@ -160,29 +159,25 @@ pub(crate) fn built_number(answer: Built) -> u64
     }
 }
 
-fn flat_word(count: u32) -> u32
-    ensures { λ r. ⌜ r ≡ flatNumber (countOf count) ⌝ }
-{
-    if count == 255 { 256 } else { count }
-}
-
 fn bit(b: bool) -> u32
     ensures { λ r. ⌜ r ≡ borrowWord b ⌝ }
 {
     if b { 1 } else { 0 }
 }
 
-fn type_words(info: Info) -> [u32; 8]
-    ensures { λ r. ⌜ r ≡ typeWords (infoMeans info) ⌝ }
+fn type_words(info: TypeInfo) -> [u32; 8]
+    ensures { λ r. ⌜ r ≡ typeWords (typeInfoMeans info) ⌝ }
 {
+    let abi = info.abi;
+    let flat = abi.flat_count;
     [
-        info.in32.size,
-        info.in32.align,
-        info.in64.size,
-        info.in64.align,
-        flat_word(info.flat.count),
-        info.flat.memory32,
-        info.flat.memory64,
+        abi.size32,
+        abi.align32,
+        abi.size64,
+        abi.align64,
+        flat_number(flat),
+        info.flat32,
+        info.flat64,
         bit(info.borrow),
     ]
 }

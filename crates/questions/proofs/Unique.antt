@@ -2,20 +2,22 @@
 use mathlib.Core.Path.{_≡_, refl, sym, ap, _∙_}
 use mathlib.Core.Bool.{Bool}
 use mathlib.Core.List.{List}
+use mathlib.Core.Option.{Option, none, some}
 use Prim.Native.Nat.{ℕ}
 use denote.Ref.{RefT, at-last}
 use contract.Lifetimes.{Lfts}
 use Rattle.canon.specs.Answer.{Answer, ok, refused}
 use Rattle.canon.specs.Layout as canon
 use Rattle.canon.specs.Row as row
+use Rattle.types.specs.Means.{countMeans}
 use Rattle.types.specs.declared.refusal.Refusal.{Refusal}
-use Rattle.types.specs.declared.extent.Layout.{Layout}
+use Rattle.types.specs.declared.flat.FlatCount.{FlatCount}
+use Rattle.types.specs.declared.flat.FlatCount.the-variants as flat
 use Rattle.flat_types.specs.declared.memory.Memory.{Memory}
 use Rattle.types.proofs.Told.{told, refusalOf, refusal-back}
-use Rattle.table.proofs.Unique.{back, back-again}
-use Rattle.table.specs.declared.info.Info.{Info}
-use Rattle.questions.specs.Means.{typeMeans, answerMeans, gatheredMeans}
+use Rattle.questions.specs.Means.{typeInfoMeans, typeMeans, answerMeans, gatheredMeans}
 use Rattle.questions.specs.Gathers.{Together}
+use Rattle.questions.specs.declared.answer.TypeInfo.{TypeInfo}
 use Rattle.questions.specs.declared.answer.TypeAnswer.{TypeAnswer}
 use Rattle.questions.specs.declared.answer.TypeAnswer.the-variants as type
 use Rattle.questions.specs.declared.answer.LayoutAnswer.{LayoutAnswer}
@@ -29,13 +31,42 @@ use Rattle.questions.proofs.ask.size_align.Reads as size-align
 use Rattle.questions.proofs.list.gather.Reads as gather
 use Rattle.questions.proofs.placing.placement.Reads as placement
 
+countFrom : Option ℕ → FlatCount
+countFrom none = flat.None
+countFrom (some n) = flat.Count n
+
+count-back : (c : FlatCount) → countFrom (countMeans c) ≡ c
+unfolding countFrom
+count-back (flat.Count n) = refl
+count-back flat.None = refl
+
+infoFrom : row.Info → TypeInfo
+infoFrom i =
+    record {
+      abi =
+          record {
+            size32 = i .abi .layouts .in32 .size;
+            align32 = i .abi .layouts .in32 .align;
+            size64 = i .abi .layouts .in64 .size;
+            align64 = i .abi .layouts .in64 .align;
+            «flat_count» = countFrom (i .abi .flats);
+          };
+      flat32 = i .flatWords .in32;
+      flat64 = i .flatWords .in64;
+      borrow = i .borrow;
+    }
+
+info-back : (i : TypeInfo) → infoFrom (typeInfoMeans i) ≡ i
+unfolding infoFrom
+info-back i = rw (count-back (i .abi .«flat_count»))
+
 typeOf : Answer row.Info → TypeAnswer
-typeOf (ok i) = type.Info (back i)
+typeOf (ok i) = type.Info (infoFrom i)
 typeOf (refused x p) = type.Refused (refusalOf x) (record { 0 = p })
 
 type-back : (r : TypeAnswer) → typeOf (typeMeans r) ≡ r
 unfolding typeOf
-type-back (type.Info i) = ap type.Info (back-again i)
+type-back (type.Info i) = ap type.Info (info-back i)
 type-back (type.Refused x p) = ap (λ (y : Refusal). type.Refused y p) (refusal-back x)
 
 pub layoutOf : Answer canon.Layout → LayoutAnswer

@@ -1,20 +1,20 @@
 -- What one reference gives: its row lies within the table, the code's tests are 01's good form, and what is read has a good flat count.
 use mathlib.Core.Path.{_≡_, refl, sym, ap, ap₂, _∙_}
-use mathlib.Core.Bool.{Bool, true, false, _||_, _&&_, and-assoc, or-assoc, or-false}
+use mathlib.Core.Bool.{Bool, true, false, cond, _||_, _&&_, and-assoc, or-assoc, or-false}
 use mathlib.Core.List.{List, [], _∷_, _++_}
 use mathlib.Core.Option.{Option, none, some}
 use Prim.Native.Nat.{ℕ, zero, suc, _*_, _≤_, _<_}
 use native.Mathlib.Omega.{arith}
-use lib.Dec.{leb, ltb}
+use lib.Dec.{leb, ltb, eqb}
 use lib.ListN.{length}
-use borrow.Author.Tests.{ltb-false, lt-ltb, le-leb, ne-eqb}
-use Rattle.canon.specs.Answer.{is}
+use borrow.Author.Tests.{ltb-false, leb-true, eqb-true, lt-ltb, le-leb, ne-eqb}
+use Rattle.canon.specs.Answer.{Leaf, is, no, ok, atPosition, unless, badRow}
 use Rattle.canon.specs.Layout.{Memory, mem32, mem64}
 use Rattle.canon.specs.Row as canon
-use Rattle.canon.specs.Row.{rowInfo, rowAbi, goodLayout, goodCount, unusedZero, goodAbi, isDiscriminant, isGood, flatOf}
+use Rattle.canon.specs.Row.{countOf, rowInfo, rowAbi, goodLayout, goodCount, unusedZero, goodAbi, isDiscriminant, isGood, flatOf}
 use Rattle.canon.specs.Table.{capacity, rowAt}
 use Rattle.canon.specs.Flat.{flatCount}
-use Rattle.canon.specs.Question.{read, noTable, someBorrow}
+use Rattle.canon.specs.Question.{read, noTable, typeAnswer, someBorrow}
 use Rattle.canon.proofs.Tests.{impossible, both-true}
 use Rattle.canon.proofs.Counts.{counted}
 use Rattle.canon.proofs.Asked.{read-has, row-tested}
@@ -88,6 +88,24 @@ unfolding goodAbi
 read-counted =
     read-has (λ i. goodCount (i .abi .flats) ≡ true) (λ t. typed-good (flatCount t) (λ n e. counted mem32 t n .0 e .1))
     (λ r good. both-true (goodLayout (rowAbi r .layouts .in64)) _ (both-true (goodLayout (rowAbi r .layouts .in32)) _ (row-tested r good) .1) .1)
+
+pub type-counted : (t : List ℕ) (n w : ℕ) (i : canon.Info) → typeAnswer t n w ≡ ok i → goodCount (i .abi .flats) ≡ true
+unfolding typeAnswer unless atPosition
+type-counted t n w i h = go (noTable t n) (read t n w) refl h
+  where
+    go : (b : Bool) (l : Leaf canon.Info) → read t n w ≡ l → unless b badRow (atPosition 0 l) ≡ ok i → goodCount (i .abi .flats) ≡ true
+    go true l f e = impossible (cc)
+    go false (no x) f e = impossible (cc)
+    go false (is j) f e = let p : j ≡ i = cc in read-counted t n w i (f ∙ ap is p)
+
+-- a good count is a byte
+pub counted-byte : (c : ℕ) → goodCount (countOf c) ≡ true → c ≤ 255
+unfolding goodCount
+counted-byte c = go (eqb c 255) refl
+  where
+    go : (b : Bool) → eqb c 255 ≡ b → goodCount (cond b none (some c)) ≡ true → c ≤ 255
+    go true f e = let p = eqb-true c 255 f in omega arith
+    go false f e = let p = leb-true c 16 e in omega arith
 
 -- One more info together with those before it
 

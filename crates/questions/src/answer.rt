@@ -1,11 +1,19 @@
 // What a question answers: a value, or the refusal with the position of the reference at fault, 0 where none is.
-use table::Info;
 use table::MemberPosition;
+use types::CanonicalAbiInfo;
 use types::Layout;
 use types::Refusal;
 
+// What a type question answers: the five numbers, the flat words and the borrow.
+pub struct TypeInfo {
+    pub abi: CanonicalAbiInfo,
+    pub flat32: u32,
+    pub flat64: u32,
+    pub borrow: bool,
+}
+
 pub enum TypeAnswer {
-    Info(Info),
+    Info(TypeInfo),
     Refused(Refusal, MemberPosition),
 }
 

@@ -7,6 +7,7 @@ mod read;
 
 pub use answer::LayoutAnswer;
 pub use answer::TypeAnswer;
+pub use answer::TypeInfo;
 pub use ask::canonical_abi;
 pub use ask::size_align;
 pub use list::Gathered;
