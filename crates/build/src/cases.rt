@@ -11,7 +11,6 @@ ghost use Rattle.build.specs.Steps.{noPayloads, addPayload, addCase, pay
 use crate::reference::Payload;
 use crate::reference::case_at;
 use crate::reference::member_at;
-use crate::row::NO_LAYOUT;
 use crate::row::Rowed;
 use crate::row::fit_row;
 use flat_types::FlatTypes;
@@ -19,6 +18,7 @@ use table::DefinitionIndex;
 use table::Found;
 use table::Info;
 use table::Inner;
+use table::NO_LAYOUT;
 use types::DiscriminantAnswer;
 use types::DiscriminantSize;
 use types::Extent;

@@ -6,7 +6,9 @@ ghost use Rattle.build.specs.Steps.{pairOf, fitRow, wordsWith, pairWords
 use flat_types::FlatTypes;
 use table::Info;
 use table::Inner;
+use table::NO_LAYOUT;
 use table::Row;
+use types::CanonicalAbiInfo;
 use types::Extent;
 use types::Layout;
 use types::Refusal;
@@ -15,13 +17,6 @@ pub(crate) enum Rowed {
     Row(Row),
     Refused(Refusal),
 }
-
-// A pointer and a length, in each memory.
-const PAIR32: Layout = Layout { size: 8, align: 4 };
-
-const PAIR64: Layout = Layout { size: 16, align: 8 };
-
-pub(crate) const NO_LAYOUT: Layout = Layout { size: 0, align: 0 };
 
 pub(crate) const NO_INNER: Inner = Inner {
     discriminant: 0,
@@ -45,12 +40,8 @@ pub(crate) fn layout_of(extent: Extent) -> Layout
 pub(crate) fn pair_row(kind: u32, inner: Inner, borrow: bool) -> Rowed
     ensures { λ r. ⌜ rowedMeans r ≡ is (pairWords kind (innerMeans inner) borrow) ⌝ }
 {
-    let info = Info {
-        in32: PAIR32,
-        in64: PAIR64,
-        flat: FlatTypes::POINTER_PAIR,
-        borrow,
-    };
+    let pair = CanonicalAbiInfo::POINTER_PAIR;
+    let info = Info::of(pair, FlatTypes::POINTER_PAIR, borrow);
     Rowed::Row(Row { kind, info, inner })
 }
 

@@ -18,7 +18,6 @@ use table::Info;
 use table::Row;
 use types::CanonicalAbiInfo;
 use types::InfoAnswer;
-use types::Layout;
 use types::Refusal;
 
 const LIST: u32 = 3;
@@ -66,18 +65,7 @@ pub(crate) fn flags_row(count: u32) -> Rowed
     match CanonicalAbiInfo::flags(count) {
         InfoAnswer::Refused(why) => Rowed::Refused(why),
         InfoAnswer::Info(abi) => {
-            let info = Info {
-                in32: Layout {
-                    size: abi.size32,
-                    align: abi.align32,
-                },
-                in64: Layout {
-                    size: abi.size64,
-                    align: abi.align64,
-                },
-                flat: FlatTypes::flags(count),
-                borrow: false,
-            };
+            let info = Info::of(abi, FlatTypes::flags(count), false);
             Rowed::Row(Row {
                 kind: FLAGS,
                 info,

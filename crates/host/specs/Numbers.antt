@@ -2,7 +2,7 @@
 use mathlib.Core.Bool.{Bool, cond, not}
 use mathlib.Core.List.{List, [], _∷_, _++_}
 use mathlib.Core.Option.{Option, none, some}
-use Prim.Native.Nat.{ℕ, _+_, _-_, _*_}
+use Prim.Native.Nat.{ℕ, _+_, _-_, _*_, _^_}
 use lib.Dec.{leb, ltb, eqb}
 use lib.ListN.{length, getD}
 use Rattle.canon.specs.Answer.{Leaf, is, no, Answer, ok, refused}
@@ -42,7 +42,7 @@ abiAt size32 align32 size64 align64 flat =
 
 -- from bit 56 on "the number, 1 to 8"; "in the low 32 bits the definition's index or the reference's position, 0 for a leaf"
 abbrev pub refusalNumber : ℕ → ℕ → ℕ
-refusalNumber x p = 72057594037927936 * x + p
+refusalNumber x p = 2 ^ 56 * x + p
 
 -- an answer: "the value"
 abbrev pub answerNumber : {A : Type 0} → (A → ℕ) → Answer A → ℕ
@@ -88,28 +88,19 @@ fieldWords f = f .offset ∷ f .end ∷ []
 
 -- "k = 0 to 4 as for `flags`, 5 and 6 the flat words, 7 the borrow"
 abbrev pub typeWords : Info → List ℕ
-typeWords i =
-    i .abi .layouts .in32 .size
-    ∷ i .abi .layouts .in32 .align
-    ∷ i .abi .layouts .in64 .size
-    ∷ i .abi .layouts .in64 .align
-    ∷ flatNumber (i .abi .flats)
-    ∷ i .flatWords .in32
-    ∷ i .flatWords .in64
-    ∷ borrowWord (i .borrow)
-    ∷ []
+typeWords i = abiWords (i .abi) ++ (i .flatWords .in32 ∷ i .flatWords .in64 ∷ borrowWord (i .borrow) ∷ [])
 
 -- "the size in bits 0 to 31, the alignment in bits 32 to 39"
 abbrev pub layoutNumber : Layout → ℕ
-layoutNumber f = 4294967296 * f .align + f .size
+layoutNumber f = 2 ^ 32 * f .align + f .size
 
 -- a list: "the packed types in bits 0 to 33, two bits each and the first lowest, their count in bits 40 to 47"
 abbrev pub listNumber : Packed → ℕ
-listNumber p = 1099511627776 * p .number + p .types
+listNumber p = 2 ^ 40 * p .number + p .types
 
 -- "memory": "bit 55 alone"
 abbrev pub flattenedNumber : Option Packed → ℕ
-flattenedNumber none = 36028797018963968
+flattenedNumber none = 2 ^ 55
 flattenedNumber (some p) = listNumber p
 
 abbrev pub paramsNumber : PackedSignature → ℕ

@@ -28,8 +28,15 @@ use types::Rounded;
 use types::VariantAnswer;
 use types::VariantInfo;
 
-// The lowest bit of the top byte.
-const TOP: u64 = 72057594037927936;
+// The lowest bit of a refusal's number, of a list's count and of an alignment.
+const REFUSAL: u64 = 0x0100_0000_0000_0000;
+
+const COUNT: u64 = 0x0100_0000_0000;
+
+const ALIGN: u64 = 0x0001_0000_0000;
+
+// What is not flattened but goes through memory.
+const IN_MEMORY: u64 = 0x0080_0000_0000_0000;
 
 pub(crate) fn wide(x: u32) -> u64
     ensures { λ r. ⌜ r ≡ x ⌝ }
@@ -41,7 +48,7 @@ pub(crate) fn refused(why: Refusal, at: u32) -> u64
     ensures { λ r. ⌜ r ≡ refusalNumber (numberOf why) at ⌝ }
 {
     let number = why.number() as u64;
-    TOP * number + at as u64
+    REFUSAL * number + at as u64
 }
 
 // The number k of these, the last for any k above.
@@ -198,7 +205,7 @@ pub(crate) fn layout_number(answer: LayoutAnswer) -> u64
     ensures { λ r. ⌜ r ≡ answerNumber layoutNumber (layoutAnswerMeans answer) ⌝ }
 {
     match answer {
-        LayoutAnswer::Layout(layout) => 4294967296 * wide(layout.align) + wide(layout.size),
+        LayoutAnswer::Layout(layout) => ALIGN * wide(layout.align) + wide(layout.size),
         LayoutAnswer::Refused(why, position) => refused(why, position.0),
     }
 }
@@ -207,7 +214,7 @@ fn list_number(list: FlatList) -> u64
     requires { ⌜ ShortList (words list) ⌝ }
     ensures { λ r. ⌜ r ≡ listNumber (words list) ⌝ }
 {
-    1099511627776 * wide(list.count) + list.types
+    COUNT * wide(list.count) + list.types
 }
 
 pub(crate) fn flattened_number(answer: Flattened) -> u64
@@ -216,7 +223,7 @@ pub(crate) fn flattened_number(answer: Flattened) -> u64
 {
     match answer {
         Flattened::List(list) => list_number(list),
-        Flattened::Memory => 36028797018963968,
+        Flattened::Memory => IN_MEMORY,
         Flattened::Refused(why, position) => refused(why, position.0),
     }
 }

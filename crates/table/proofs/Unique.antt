@@ -1,4 +1,5 @@
 -- No second outcome meets a promise, in the answer or in the lent table.
+use mathlib.Core.Bool.{Bool}
 use mathlib.Core.Path.{_≡_, sym, ap, _∙_}
 use mathlib.Core.List.{List}
 use Prim.Native.Nat.{ℕ}
@@ -9,6 +10,8 @@ use Rattle.canon.specs.Row as canon
 use Rattle.canon.specs.Row.{countWord}
 use Rattle.canon.proofs.Rows.{countWord-countOf}
 use Rattle.types.proofs.Told.{told}
+use Rattle.types.specs.declared.info.CanonicalAbiInfo.{CanonicalAbiInfo}
+use Rattle.flat_types.specs.declared.both.FlatTypes.{FlatTypes}
 use Rattle.table.specs.Means.{infoMeans, foundMeans}
 use Rattle.table.specs.declared.info.DefinitionIndex.{DefinitionIndex}
 use Rattle.table.specs.declared.info.Info.{Info}
@@ -17,13 +20,14 @@ use Rattle.table.specs.declared.plain.Found.the-variants as found
 use Rattle.table.specs.declared.row.Marks.{Marks}
 use Rattle.table.specs.declared.row.Row.{Row}
 use Rattle.table.proofs.cells.capacity.Reads as capacity
+use Rattle.table.proofs.info.Info.of.Reads as info-of
 use Rattle.table.proofs.plain.plain_info.Reads as plain-info
 use Rattle.table.proofs.row.put_row.Reads as put-row
 use Rattle.table.proofs.row.row_info.Reads as row-info
 use Rattle.table.proofs.row.row_marks.Reads as row-marks
 
 -- an info from its meaning
-abbrev pub back : canon.Info → Info
+abbrev back : canon.Info → Info
 back x =
     record {
       in32 = record { size = x .abi .layouts .in32 .size; align = x .abi .layouts .in32 .align };
@@ -32,7 +36,7 @@ back x =
       borrow = x .borrow;
     }
 
-pub back-again : (i : Info) → back (infoMeans i) ≡ i
+back-again : (i : Info) → back (infoMeans i) ≡ i
 back-again i =
     ap (λ (n : ℕ). record { in32 = i .in32; in64 = i .in64; flat = record { count = n; memory32 = i .flat .memory32; memory64 = i .flat .memory64 }; borrow = i .borrow })
     (countWord-countOf (i .flat .count))
@@ -48,6 +52,13 @@ same-found found.BadRef found.BadRef e = λ i. found.BadRef
 
 pub capacity-one : (n r q : ℕ) → capacity.Post tt (n, tt) r (n, tt) → capacity.Post tt (n, tt) q (n, tt) → r ≡ q
 capacity-one n r q g h = g .0 ∙ sym (h .0)
+
+pub info-of-one :
+    (a : CanonicalAbiInfo) (f : FlatTypes) (b : Bool) (r q : Info) →
+    info-of.Post tt (a, (f, (b, tt))) r (a, (f, (b, tt))) →
+    info-of.Post tt (a, (f, (b, tt))) q (a, (f, (b, tt))) →
+    r ≡ q
+info-of-one a f b r q g h = g ∙ sym h
 
 pub plain-info-one : (w : ℕ) (r q : Found) → plain-info.Post tt (w, tt) r (w, tt) → plain-info.Post tt (w, tt) q (w, tt) → r ≡ q
 plain-info-one w r q g h = same-found r q (g ∙ sym h)

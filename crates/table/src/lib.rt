@@ -9,6 +9,7 @@ pub use info::DefinitionIndex;
 pub use info::FIRST_DEFINITION;
 pub use info::Info;
 pub use info::MemberPosition;
+pub use info::NO_LAYOUT;
 pub use plain::Found;
 pub use plain::plain_info;
 pub use row::Inner;

@@ -5,11 +5,10 @@ ghost use lib.ListN.{getElem?};
 ghost use Rattle.canon.specs.Description.{plain};
 ghost use Rattle.canon.specs.Question.{plainInfo};
 ghost use Rattle.types.specs.Means.{abiMeans};
-ghost use Rattle.table.specs.Means.{Plain, foundMeans, infoWith};
+ghost use Rattle.table.specs.Means.{Plain, foundMeans};
 use crate::info::Info;
 use flat_types::FlatTypes;
 use types::CanonicalAbiInfo;
-use types::Layout;
 
 pub enum Found {
     Info(Info),
@@ -38,24 +37,6 @@ fn abi(reference: u32) -> CanonicalAbiInfo
     }
 }
 
-// The info of a type's numbers in both memories, with its flat types.
-fn info(abi: CanonicalAbiInfo, flat: FlatTypes, borrow: bool) -> Info
-    ensures { λ r. ⌜ r ≡ infoWith abi flat borrow ⌝ }
-{
-    Info {
-        in32: Layout {
-            size: abi.size32,
-            align: abi.align32,
-        },
-        in64: Layout {
-            size: abi.size64,
-            align: abi.align64,
-        },
-        flat,
-        borrow,
-    }
-}
-
 pub fn plain_info(reference: u32) -> Found
     ensures { λ r. ⌜ foundMeans r ≡ plainInfo (getElem? plain reference) ⌝ }
 {
@@ -63,5 +44,5 @@ pub fn plain_info(reference: u32) -> Found
         return Found::BadRef;
     }
     let flat = FlatTypes::plain(reference);
-    Found::Info(info(abi(reference), flat, reference == BORROW))
+    Found::Info(Info::of(abi(reference), flat, reference == BORROW))
 }

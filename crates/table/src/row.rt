@@ -8,6 +8,7 @@ use crate::cells::cell;
 use crate::cells::put_words;
 use crate::info::DefinitionIndex;
 use crate::info::Info;
+use crate::info::NO_LAYOUT;
 use flat_types::FlatTypes;
 use types::Layout;
 
@@ -32,8 +33,6 @@ pub struct Marks {
     pub discriminant: u32,
     pub borrow: u32,
 }
-
-const NO_LAYOUT: Layout = Layout { size: 0, align: 0 };
 
 const NO_INFO: Info = Info {
     in32: NO_LAYOUT,

@@ -28,6 +28,9 @@ enum-known-abi c = search needs
 flags-requires-2 : tie.Need-flags-requires-2
 flags-requires-2 c κs = search needs
 
+of-requires : tie.Need-of-requires
+of-requires c κs = search needs
+
 returns : tie.Need-returns
 unfolding andThen flagsRow
 returns c = simp (
@@ -38,12 +41,13 @@ returns c = simp (
 returns-2 : tie.Need-returns-2
 unfolding flagsRow
 returns-2 c =
-    let i = c .before .before .abi .given in
-    let n = c .before .before .before .before .before .args .count in
-    (λ j. is (wordsWith 6 (abiMeans (i .0 .0) .layouts) (flat-same (c .flags2 .result) (λ m. packed (some (flagsFlat n))) (c .flags2 .ensures) j) (both (λ m. noInner)) false))
-    ∙ sym (then-is (flagsAnswer n) (abiMeans (i .0 .0)) _ (sym (c .before .before .before .before .flags .ensures) ∙ ap infoMeans (i .1)))
+    let i = c .before .before .before .abi .given in
+    let n = c .before .before .before .before .before .before .args .count in
+    rw (c .of .ensures)
+    ((λ j. is (wordsWith 6 (abiMeans (i .0 .0) .layouts) (flat-same (c .before .flags2 .result) (λ m. packed (some (flagsFlat n))) (c .before .flags2 .ensures) j) (both (λ m. noInner)) false))
+    ∙ sym (then-is (flagsAnswer n) (abiMeans (i .0 .0)) _ (sym (c .before .before .before .before .before .flags .ensures) ∙ ap infoMeans (i .1))))
 
 pub flags-row-spec : {M : Type 1} → statement M
 flags-row-spec =
     tie.close
-    (tie.spec flags-requires enum-known-why enum-known-abi flags-requires-2 returns returns-2)
+    (tie.spec flags-requires enum-known-why enum-known-abi flags-requires-2 of-requires returns returns-2)

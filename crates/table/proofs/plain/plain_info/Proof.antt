@@ -19,13 +19,13 @@ plain-requires c κs = search needs
 abi-requires : tie.Need-abi-requires
 abi-requires c κs = search needs
 
-info-requires : tie.Need-info-requires
-info-requires c κs = search needs
+of-requires : tie.Need-of-requires
+of-requires c κs = search needs
 
 returns-2 : tie.Need-returns-2
 returns-2 c =
     let k = c .before .before .before .before .args .reference in
-    rw (c .info .ensures) (plain-is _ k (omega arith) (c .before .abi .ensures .0) (c .before .before .plain .ensures) refl)
+    rw (c .of .ensures) (plain-is _ k (omega arith) (c .before .abi .ensures .0) (c .before .before .plain .ensures) refl)
 
 pub plain-info-spec : {M : Type 1} → statement M
-plain-info-spec = tie.close (tie.spec returns plain-requires abi-requires info-requires returns-2)
+plain-info-spec = tie.close (tie.spec returns plain-requires abi-requires of-requires returns-2)
