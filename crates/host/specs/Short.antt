@@ -1,12 +1,12 @@
 -- What a list's number has room for. 01: "at most 17"; proofs/ carries it from canon's answers.
 use mathlib.Core.Option.{Option, none, some}
-use Prim.Native.Nat.{ℕ, _≤_, _<_}
+use Prim.Native.Nat.{ℕ, _^_, _≤_, _<_}
 use Rattle.canon.specs.Answer.{Answer, ok, refused}
 use Rattle.canon.specs.Pack.{Packed}
 use Rattle.signature.specs.Packs.{PackedSignature}
 
 abbrev pub ShortList : Packed → Type 0
-ShortList p = (p .number ≤ 17) × (p .types < 17179869184)
+ShortList p = (p .number ≤ 17) × (p .types < 2 ^ 34)
 
 abbrev pub ShortFlat : Option Packed → Type 0
 ShortFlat none = Unit
