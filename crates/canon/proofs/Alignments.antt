@@ -5,74 +5,15 @@ use mathlib.Core.List.{List, [], _∷_, _++_}
 use Prim.Native.Nat.{ℕ, _+_, _∣_, max}
 use native.Mathlib.Nat.{dvd-refl, dvd-add, one-dvd, dvd-mul-right-of-dvd}
 use lib.Dec.{leb}
-use Rattle.canon.specs.Round.{roundUp, Alignment, by1, by2, by4, by8}
-use Rattle.canon.specs.Types.{
-  Scalar,
-  bool,
-  s8,
-  u8,
-  s16,
-  u16,
-  s32,
-  u32,
-  s64,
-  u64,
-  float32,
-  float64,
-  char,
-  own,
-  borrowed,
-  future,
-  stream,
-  errorContext,
-  Ty,
-  scalar,
-  string,
-  recordOf,
-  variantOf,
-  listOf,
-  tupleOf,
-  mapOf,
-  flagsOf,
-  enumOf,
-  optionOf,
-  resultOf,
-  fixedOf,
-  Members,
-  ∅,
-  _◂_,
-  Case,
-  bare,
-  holding,
-  Cases,
-  ∎,
-  _▸_,
-  count,
-}
-use Rattle.canon.specs.Layout.{
-  Memory,
-  mem32,
-  mem64,
-  Layout,
-  square,
-  scalarSize,
-  ptrSize,
-  greatestAlign,
-  recordSize,
-  discriminant,
-  variantAlign,
-  payloadOffset,
-  variantSize,
-  flagsLayout,
-  layout,
-  members,
-  payload,
-  payloads,
-}
-use Rattle.canon.proofs.Rounding.{dvd-roundUp, max-alignment}
+use Rattle.canon.specs.Types.{Scalar, facts, bool, s8, u8, s16, u16, s32, u32, s64, u64, float32, float64, char, own, borrowed}
+use Rattle.canon.specs.Types.{future, stream, errorContext, Ty, scalar, string, recordOf, variantOf, listOf, tupleOf, mapOf}
+use Rattle.canon.specs.Types.{flagsOf, enumOf, optionOf, resultOf, fixedOf, Members, ∅, _◂_, Case, bare, holding, Cases, ∎, _▸_, count}
+use Rattle.canon.specs.Layout.{Memory, mem32, mem64, Layout, square, ptrSize, greatestAlign, recordSize, discriminant}
+use Rattle.canon.specs.Layout.{variantAlign, payloadOffset, variantSize, flagsLayout, layout, members, payload, payloads, roundUp}
+use Rattle.canon.proofs.Rounding.{dvd-roundUp, max-alignment, Alignment, by1, by2, by4, by8}
 use Rattle.canon.proofs.Tightest.{Aligned, greatestAlign-alignment}
 
-scalar-alignment : (s : Scalar) → Alignment (scalarSize s)
+scalar-alignment : (s : Scalar) → Alignment (facts s .size)
 scalar-alignment bool = by1
 scalar-alignment s8 = by1
 scalar-alignment u8 = by1
@@ -157,7 +98,7 @@ pair-whole m = dvd-add (ptrSize m) (dvd-refl (ptrSize m)) (dvd-refl (ptrSize m))
 -- a type's size is a multiple of its alignment
 pub layout-whole : (m : Memory) (t : Ty) → layout m t .align ∣ layout m t .size
 unfolding layout recordSize variantSize
-layout-whole m (scalar s) = dvd-refl (scalarSize s)
+layout-whole m (scalar s) = dvd-refl (facts s .size)
 layout-whole m string = pair-whole m
 layout-whole m (recordOf ts) = dvd-roundUp _ (greatestAlign (members m ts))
 layout-whole m (variantOf cs) = dvd-roundUp _ (variantAlign (count cs) (payloads m cs))

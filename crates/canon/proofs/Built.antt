@@ -10,47 +10,17 @@ use lib.ListN.{length, getD, take, drop, getElem?, length-map, length-append}
 use borrow.Author.Tests.{ltb-true, ltb-false}
 use Rattle.canon.specs.Answer.{Leaf, is, no as refuses, lift, lift2, badRef, tooLarge}
 use Rattle.canon.specs.Types.{Ty, recordOf, variantOf, listOf, tupleOf, mapOf, flagsOf, enumOf, optionOf, resultOf, fixedOf}
+use Rattle.canon.specs.Types.{plain, Kind, kRecord, kVariant, kList, kTuple, kMap, kFlags, kEnum, kOption, kResult, kFixed}
 use Rattle.canon.specs.Layout.{mem32, mem64}
-use Rattle.canon.specs.Placement.{Every}
 use Rattle.canon.specs.Row.{Info, rowOf}
 use Rattle.canon.specs.Table.{capacity, cellsFrom, putRows}
-use Rattle.canon.specs.Description.{
-  plain,
-  reference,
-  caseOf,
-  membersOf,
-  casesOf,
-  Kind,
-  kRecord,
-  kVariant,
-  kList,
-  kTuple,
-  kMap,
-  kFlags,
-  kEnum,
-  kOption,
-  kResult,
-  kFixed,
-  kindOf,
-  bodyLength,
-  isBadCount,
-  typeOf,
-  isTooLarge,
-  Defined,
-  fitted,
-  bodied,
-  define,
-  follow,
-  buildFrom,
-  build,
-  built,
-  mostWords,
-  tableAfter,
-}
+use Rattle.canon.specs.Description.{reference, caseOf, membersOf, casesOf, kindOf, shapeOf, bodyLength, isBadCount, typeOf}
+use Rattle.canon.specs.Description.{isTooLarge, Defined, checked, bodied, define, follow, buildFrom, build, built, mostWords, tableAfter}
 use Rattle.canon.specs.Question.{plainInfo, readRow, read}
 use Rattle.canon.proofs.Tests.{impossible}
 use Rattle.canon.proofs.Cells.{room-fits, length-putRows, row-at}
 use Rattle.canon.proofs.Rows.{Definition, row-good, row-back}
+use Rattle.canon.specs.Placement.{Every}
 
 -- What a description accepts is a definition
 
@@ -79,10 +49,10 @@ passed : (b : Bool) (x : ℕ) (l : Leaf Defined) (d : Defined) → cond b (refus
 passed true x l d e = impossible (cc)
 passed false x l d e = e
 
-fitted-definition : (ts : List Ty) (k : Kind) (b : List ℕ) (n : ℕ) (o : Option Ty) (d : Defined) → typeOf ts k b ≡ o → fitted n o ≡ is d → Definition (d .type)
-unfolding fitted
-fitted-definition ts k b n none d e h = impossible (cc)
-fitted-definition ts k b n (some t) d e h =
+checked-definition : (ts : List Ty) (k : Kind) (b : List ℕ) (n : ℕ) (o : Option Ty) (d : Defined) → typeOf ts k b ≡ o → checked n o ≡ is d → Definition (d .type)
+unfolding checked
+checked-definition ts k b n none d e h = impossible (cc)
+checked-definition ts k b n (some t) d e h =
     let p : _≡_ {A = Leaf Defined} (is (record { type = t; length = n })) (is d) = passed (isTooLarge mem32 t || isTooLarge mem64 t) tooLarge _ d h in
     let q : record { type = t; length = n } ≡ d = cc in
     let r : t ≡ d .type = ap (λ (x : Defined). x .type) q in
@@ -92,8 +62,8 @@ define-definition : (ts : List Ty) (o : Option Kind) (ws : List ℕ) (d : Define
 unfolding bodied
 define-definition ts none ws d h = impossible (cc)
 define-definition ts (some k) ws d h =
-    fitted-definition ts k (take (bodyLength k (getD ws 0 0)) ws) (bodyLength k (getD ws 0 0)) _ d refl
-    (passed (isBadCount k (getD ws 0 0)) _ _ d (passed (ltb (length ws) (bodyLength k (getD ws 0 0))) _ _ d h))
+    checked-definition ts k (take (bodyLength (shapeOf k) (getD ws 0 0)) ws) (bodyLength (shapeOf k) (getD ws 0 0)) _ d refl
+    (passed (isBadCount k (getD ws 0 0)) _ _ d (passed (ltb (length ws) (bodyLength (shapeOf k) (getD ws 0 0))) _ _ d h))
 
 -- what a build keeps true at each definition, of the room left and the types so far, holds at its end
 pub build-keeps :

@@ -13,35 +13,17 @@ use lib.Seq.{take-all, getD-take, set-append-left}
 use borrow.Author.Tests.{ltb-true, ltb-false, lt-ltb, le-ltb}
 use Rattle.canon.specs.Answer.{Leaf, no as refuses, Answer, ok, refused, atPosition, then, unless, tooLong, badRef, badCount, noRoom, badRow}
 use Rattle.canon.specs.Layout.{Memory, within, Layout, starts, recordLayout}
-use Rattle.canon.specs.Placement.{Every}
 use Rattle.canon.specs.Row.{Info, rowOf}
 use Rattle.canon.specs.Table.{capacity, place, cell, cellsFrom, rowAt, putFrom, putRows}
-use Rattle.canon.specs.Description.{plain, mostWords, built, buildAnswer, tableAfter}
-use Rattle.canon.specs.Question.{
-  plainInfo,
-  readRow,
-  read,
-  infos,
-  tooMany,
-  noTable,
-  ask,
-  askTwo,
-  typeAnswer,
-  sizeAlignAnswer,
-  layoutsIn,
-  Placing,
-  refusedAt,
-  judged,
-  placed,
-  placing,
-  placementAnswer,
-  written,
-  offsetsAfter,
-}
-use Rattle.canon.proofs.Tests.{impossible}
+use Rattle.canon.specs.Description.{mostWords, built, buildAnswer, tableAfter}
+use Rattle.canon.specs.Question.{plainInfo, readRow, read, infos, tooMany, noTable, ask, askTwo, typeAnswer, sizeAlignAnswer}
+use Rattle.canon.specs.Question.{layoutsIn, Placing, refusedAt, judged, placed, placing, placementAnswer, bufferAfter, offsetsAfter}
+use Rattle.canon.specs.Types.{plain}
+use Rattle.canon.proofs.Tests.{impossible, neither}
 use Rattle.canon.proofs.Cells.{place-fits, room-fits, length-putFrom}
 use Rattle.canon.proofs.Built.{every-sixteen, built-sound}
-use Rattle.canon.proofs.Asked.{infos-length}
+use Rattle.canon.specs.Placement.{Every}
+use Rattle.canon.proofs.Questions.{infos-length}
 
 -- Tests
 
@@ -58,10 +40,6 @@ behind : {A : Type 0} (b : Bool) (x : ℕ) {u v : Answer A} → (b ≡ false →
 unfolding unless
 behind true x h = refl
 behind false x h = h refl
-
-neither : (a b : Bool) → a || b ≡ false → (a ≡ false) × (b ≡ false)
-neither true b h = impossible (cc)
-neither false b h = (refl, h)
 
 -- Rows
 
@@ -241,8 +219,8 @@ behind-first (suc n) zero l h = absurd (omega arith)
 behind-first (suc n) (suc c) [] h = refl
 behind-first (suc n) (suc c) (x ∷ l) h = behind-first n c l (omega arith)
 
-written-first : (a : Answer Placing) (out : List ℕ) → ((p : Placing) → a ≡ ok p → length (p .offsets) ≤ 16384) → written a (take 16384 out) ++ drop 16384 out ≡ written a out
-unfolding written
+written-first : (a : Answer Placing) (out : List ℕ) → ((p : Placing) → a ≡ ok p → length (p .offsets) ≤ 16384) → bufferAfter a (take 16384 out) ++ drop 16384 out ≡ bufferAfter a out
+unfolding bufferAfter
 written-first (ok p) out few =
     append-assoc (p .offsets) (drop (length (p .offsets)) (take 16384 out)) (drop 16384 out)
     ∙ ap (λ (l : List ℕ). p .offsets ++ l) (behind-first (length (p .offsets)) 16384 out (few p refl))

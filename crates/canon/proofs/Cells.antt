@@ -6,8 +6,8 @@ use native.Mathlib.Nat.{div-mul-le-self, add-zero, zero-add}
 use native.Mathlib.Omega.{arith}
 use lib.ListN.{length, getD, set, drop, length-set, drop-of-length-le}
 use lib.Seq.{getD-set-same, getD-set-other, drop-cons}
-use Rattle.canon.specs.Placement.{Every}
 use Rattle.canon.specs.Table.{capacity, place, cell, cellsFrom, putFrom, putRows}
+use Rattle.canon.specs.Placement.{Every}
 
 pub place-fits : (room row word n : ℕ) → row < room → word < 16 → 16 * room ≤ n → place room row word < n
 unfolding place

@@ -10,60 +10,40 @@ use native.Mathlib.Omega.{arith}
 use lib.Dec.{leb}
 use lib.ListN.{length, length-append}
 use borrow.Author.Tests.{leb-true, leb-false}
-use Rattle.canon.specs.Types.{
-  Ty,
-  scalar,
-  string,
-  recordOf,
-  variantOf,
-  listOf,
-  tupleOf,
-  mapOf,
-  flagsOf,
-  enumOf,
-  optionOf,
-  resultOf,
-  fixedOf,
-  Members,
-  ∅,
-  _◂_,
-  Case,
-  bare,
-  holding,
-  Cases,
-  ∎,
-  _▸_,
-}
+use Rattle.canon.specs.Types.{Ty, scalar, string, recordOf, variantOf, listOf, tupleOf, mapOf, flagsOf, enumOf}
+use Rattle.canon.specs.Types.{optionOf, resultOf, fixedOf, Members, ∅, _◂_, Case, bare, holding, Cases, ∎, _▸_, Core, I32}
 use Rattle.canon.specs.Layout.{Memory}
-use Rattle.canon.specs.Flat.{
-  Core,
-  I32,
-  joinLists,
-  joinAll,
-  concat,
-  flagsFlat,
-  flatten,
-  memberFlats,
-  payloadFlat,
-  payloadFlats,
-  capped,
-  addFlat,
-  maxFlat,
-  timesFlat,
-  sumFlat,
-  greatestFlat,
-  variantCount,
-  flagsCount,
-  flatCount,
-  memberCounts,
-  payloadCount,
-  payloadCounts,
-  Gap,
-  GapIn,
-  GapOf,
-  GapAmong,
-}
+use Rattle.canon.specs.Flat.{joinLists, joinAll, concat, flagsFlat, flatten, memberFlats, payloadFlat, payloadFlats, capped, addFlat, maxFlat}
+use Rattle.canon.specs.Flat.{timesFlat, sumFlat, greatestFlat, variantCount, flagsCount, flatCount, memberCounts, payloadCount, payloadCounts}
 use Rattle.canon.proofs.FlatFolds.{length-join, length-copies, maxFlat-assoc, zero-maxFlat}
+
+-- 01's rule and the flat list part ways at one place: a fixed list of count 0 over an element without a count, met outside a list or map
+unfoldable mutual
+  pub Gap : Ty → Type 0
+  Gap (scalar s) = ⊥
+  Gap string = ⊥
+  Gap (recordOf ts) = GapIn ts
+  Gap (variantOf cs) = GapAmong cs
+  Gap (listOf t) = ⊥
+  Gap (tupleOf ts) = GapIn ts
+  Gap (mapOf k v) = ⊥
+  Gap (flagsOf n) = ⊥
+  Gap (enumOf n) = ⊥
+  Gap (optionOf t) = Gap t
+  Gap (resultOf ok err) = GapOf ok ⊎ GapOf err
+  Gap (fixedOf t n) = ((n ≡ 0) × (flatCount t ≡ none)) ⊎ Gap t
+
+  pub GapIn : Members → Type 0
+  GapIn ∅ = ⊥
+  GapIn (t ◂ ts) = Gap t ⊎ GapIn ts
+
+  pub GapOf : Case → Type 0
+  GapOf bare = ⊥
+  GapOf (holding t) = Gap t
+
+  pub GapAmong : Cases → Type 0
+  GapAmong ∎ = ⊥
+  GapAmong (c ▸ cs) = GapOf c ⊎ GapAmong cs
 
 -- a count of a list of so many entries: its length up to 16 where there is no gap G, none only where it is longer or has one
 abbrev Judged : Option ℕ → ℕ → Type 0 → Type 0
@@ -77,9 +57,6 @@ capped-judged n G ng = go (leb n 16) refl
     go true h = (refl, leb-true n 16 h, ng)
     go false h = inl (leb-false n 16 h)
 
-neither : {G H : Type 0} → (G → ⊥) → (H → ⊥) → G ⊎ H → ⊥
-neither ng nh = ⊎-elim ng nh
-
 -- a part without a count makes the whole longer than 16, too, or has the gap
 left-none : {k l : ℕ} {G H : Type 0} → k ≤ l → (16 < k) ⊎ G → (16 < l) ⊎ (G ⊎ H)
 left-none le = ⊎-elim (λ h. inl (omega arith)) (λ g. inr (inl g))
@@ -92,13 +69,13 @@ unfolding addFlat
 add-judged none b k l G H p q = left-none (omega arith) p
 add-judged (some m) none k l G H p q = right-none (omega arith) q
 add-judged (some m) (some n) k l G H p q =
-    rw (p .0, q .0) (capped-judged (m + n) (G ⊎ H) (neither (p .2) (q .2)))
+    rw (p .0, q .0) (capped-judged (m + n) (G ⊎ H) (⊎-elim (p .2) (q .2)))
 
 max-judged : (a b : Option ℕ) (k l : ℕ) (G H : Type 0) → Judged a k G → Judged b l H → Judged (maxFlat a b) (max k l) (G ⊎ H)
 unfolding maxFlat
 max-judged none b k l G H p q = left-none (omega arith) p
 max-judged (some m) none k l G H p q = right-none (omega arith) q
-max-judged (some m) (some n) k l G H p q = (omega arith, omega arith, neither (p .2) (q .2))
+max-judged (some m) (some n) k l G H p q = (omega arith, omega arith, ⊎-elim (p .2) (q .2))
 
 -- n elements of k entries each
 times-judged : (a : Option ℕ) (k n : ℕ) (G : Type 0) → Judged a k G → Judged (timesFlat a n) (k * n) (((n ≡ 0) × (a ≡ none)) ⊎ G)
@@ -108,7 +85,7 @@ times-judged none k (suc n) G p = ⊎-elim (λ (h : 16 < k). inl (rw (mul-suc k 
 times-judged (some m) k n G p =
     rw (p .0)
     (capped-judged (m * n) _
-    (neither (λ e. let z : _≡_ {A = ℕ} 0 1 = cc (e .1) in omega arith) (p .2)))
+    (⊎-elim (λ e. let z : _≡_ {A = ℕ} 0 1 = cc (e .1) in omega arith) (p .2)))
 
 -- of lists of lists
 

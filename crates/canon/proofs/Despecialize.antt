@@ -1,39 +1,39 @@
--- The standard's despecialize changes neither layout nor flat list nor flat count nor borrow: an enum of n is a variant of n bare cases,
+-- The standard's despecialize changes neither layout nor flat list nor flat count nor what is reached: an enum of n is a variant of n bare cases,
 -- option and result are variants of two cases, a tuple is a record, a map the list of its entries.
-use mathlib.Core.Path.{_≡_, refl, ap}
-use mathlib.Core.Bool.{Bool, false, _||_, or-false}
+use mathlib.Core.Path.{_≡_, refl, ap, _∙_}
 use mathlib.Core.List.{List, [], _++_, append-nil}
 use mathlib.Core.Option.{Option}
 use Prim.Native.Nat.{ℕ, zero, suc}
-use Rattle.canon.specs.Types.{
-  Ty,
-  scalar,
-  string,
-  recordOf,
-  variantOf,
-  listOf,
-  tupleOf,
-  mapOf,
-  flagsOf,
-  enumOf,
-  optionOf,
-  resultOf,
-  fixedOf,
-  Members,
-  Case,
-  bare,
-  holding,
-  ∎,
-  _▸_,
-  count,
-  bareCases,
-  entryOf,
-  despecialize,
-}
+use Rattle.canon.specs.Types.{Ty, scalar, string, recordOf, variantOf, listOf, tupleOf, mapOf, flagsOf, enumOf}
+use Rattle.canon.specs.Types.{optionOf, resultOf, fixedOf, Members, ∅, _◂_, Case, bare, holding, Cases, ∎, _▸_, count, Core}
 use Rattle.canon.specs.Layout.{Memory, Layout, layout, payload, payloads, variantLayout}
-use Rattle.canon.specs.Flat.{Core, flatten, payloadFlat, payloadFlats, variantFlat, flatCount, payloadCount, payloadCounts, variantCount}
-use Rattle.canon.specs.Borrow.{borrows, payloadBorrows, caseBorrows}
+use Rattle.canon.specs.Flat.{flatten, payloadFlat, payloadFlats, variantFlat, flatCount, payloadCount, payloadCounts, variantCount}
+use Rattle.canon.specs.Reach.{noReach, joinReach, reach, payloadReach, caseReach}
 use Rattle.canon.specs.Row.{inner, casesInner}
+use Rattle.canon.proofs.Reaches.{noReach-join, join-noReach}
+
+abbrev pub bareCases : ℕ → Cases
+bareCases zero = ∎
+bareCases (suc n) = bare ▸ bareCases n
+
+-- 01: "Map entry: a tuple of key and value"
+abbrev pub entryOf : Ty → Ty → Ty
+entryOf k v = tupleOf (k ◂ v ◂ ∅)
+
+-- CanonicalABI.md, despecialize. 01: "Enum: a variant without payloads. Option: cases none, some. Result: ok, err."
+unfoldable pub despecialize : Ty → Ty
+despecialize (scalar s) = scalar s
+despecialize string = string
+despecialize (recordOf ts) = recordOf ts
+despecialize (variantOf cs) = variantOf cs
+despecialize (listOf t) = listOf t
+despecialize (tupleOf ts) = recordOf ts
+despecialize (mapOf k v) = listOf (entryOf k v)
+despecialize (flagsOf n) = flagsOf n
+despecialize (enumOf n) = variantOf (bareCases n)
+despecialize (optionOf t) = variantOf (bare ▸ holding t ▸ ∎)
+despecialize (resultOf ok err) = variantOf (ok ▸ err ▸ ∎)
+despecialize (fixedOf t n) = fixedOf t n
 
 -- of bare cases there are n, and nothing else
 
@@ -56,10 +56,10 @@ unfolding payloadCounts
 payloadCounts-bare zero = refl
 payloadCounts-bare (suc n) = payloadCounts-bare n
 
-caseBorrows-bare : (n : ℕ) → caseBorrows (bareCases n) ≡ false
-unfolding caseBorrows
-caseBorrows-bare zero = refl
-caseBorrows-bare (suc n) = caseBorrows-bare n
+caseReach-bare : (n : ℕ) → caseReach (bareCases n) ≡ noReach
+unfolding caseReach
+caseReach-bare zero = refl
+caseReach-bare (suc n) = noReach-join (caseReach (bareCases n)) ∙ caseReach-bare n
 
 -- what despecialize spells anew is one of five kinds
 unchanged :
@@ -102,11 +102,12 @@ same-count =
     unchanged flatCount (λ ts. refl) (λ k v. refl) (λ n. ap variantCount (payloadCounts-bare n)) (λ t. refl)
     (λ ok err. ap (λ (l : List (Option ℕ)). variantCount (payloadCount ok ++ l)) (append-nil (payloadCount err)))
 
-pub same-borrow : (t : Ty) → borrows (despecialize t) ≡ borrows t
-unfolding borrows
-same-borrow =
-    unchanged borrows (λ ts. refl) (λ k v. ap (λ (b : Bool). borrows k || b) (or-false (borrows v))) caseBorrows-bare
-    (λ t. or-false (borrows t)) (λ ok err. ap (λ (b : Bool). payloadBorrows ok || b) (or-false (payloadBorrows err)))
+pub same-reach : (t : Ty) → reach (despecialize t) ≡ reach t
+unfolding reach
+same-reach =
+    unchanged reach (λ ts. refl) (λ k v. ap (joinReach (reach k)) (join-noReach (reach v))) caseReach-bare
+    (λ t. noReach-join (joinReach (reach t) noReach) ∙ join-noReach (reach t))
+    (λ ok err. ap (joinReach (payloadReach ok)) (join-noReach (payloadReach err)))
 
 -- the words 8 to 14 of a row: a variant's of the variant that the kind stands for, a map's entry of the tuple
 pub same-enum : (m : Memory) (n : ℕ) → inner m (despecialize (enumOf n)) ≡ inner m (enumOf n)

@@ -6,46 +6,34 @@ use mathlib.Core.List.{List, [], _∷_, _++_, map}
 use Prim.Native.Nat.{ℕ, _+_, _-_}
 use lib.ListN.{replicate}
 use Rattle.canon.specs.Answer.{Answer, ok, refused, atPosition, then, unless}
-use Rattle.canon.specs.Round.{roundUp}
-use Rattle.canon.specs.Layout.{Memory, mem32, mem64, greatestAlign, starts, ends, lastEnd, recordSize, greatestSize, payloadOffset, variantSize, layout, numbers}
+use Rattle.canon.specs.Layout.{Memory, mem32, mem64, greatestAlign, starts, ends, lastEnd, recordSize}
+use Rattle.canon.specs.Layout.{greatestSize, payloadOffset, variantSize, layout, numbers, roundUp}
 use Rattle.canon.specs.Flat.{joinLists, joinAll, concat, copies, flatten, addFlat, maxFlat, timesFlat, sumFlat, greatestFlat, flatCount}
-use Rattle.canon.specs.Borrow.{borrows}
+use Rattle.canon.specs.Reach.{joinReach, reachWord, wordReach, goodReach, reach}
 use Rattle.canon.specs.Pack.{code, pack, unpack}
-use Rattle.canon.specs.Row.{Info, countWord, word, rowOf, flatOf, isAlignment, goodLayout, goodCount, unusedZero, goodAbi, isDiscriminant, isGood}
+use Rattle.canon.specs.Row.{Info, countWord, word, rowOf, flatOf, isAlignment}
+use Rattle.canon.specs.Row.{goodLayout, goodCount, unusedZero, goodAbi, isDiscriminant, isGood}
 use Rattle.canon.specs.Table.{capacity, place, cell, cellsFrom, rowAt, putFrom, putRows}
-use Rattle.canon.specs.Description.{reference, caseOf, membersOf, casesOf, kindOf, typeOf, isTooLarge, fitted, bodied, buildFrom, build, buildAnswer, tableAfter}
-use Rattle.canon.specs.Question.{plainInfo, readRow, read, infos, noTable, ask, askTwo, typeAnswer, firstOver, orSize, refusedAt, judged, placed, placing}
-use Rattle.canon.specs.Signature.{
-  Flattened,
-  listed,
-  inMemory,
-  flatAll,
-  atMost,
-  flattenAnswer,
-  Side,
-  Signature,
-  orPointer,
-  startOf,
-  asyncStartAnswer,
-  behindPointer,
-  returned,
-  returnOf,
-  asyncReturnAnswer,
-}
+use Rattle.canon.specs.Description.{reference, caseOf, membersOf, casesOf, kindOf, typeOf}
+use Rattle.canon.specs.Description.{isTooLarge, checked, bodied, buildFrom, build, buildAnswer, tableAfter}
+use Rattle.canon.specs.Question.{plainInfo, readRow, read, infos, noTable, ask, askTwo}
+use Rattle.canon.specs.Question.{typeAnswer, firstOver, orSize, refusedAt, judged, placed, placing}
+use Rattle.canon.specs.Signature.{Flattened, listed, inMemory, flatAll, atMost, flattenAnswer, Side, Signature}
+use Rattle.canon.specs.Signature.{orPointer, startOf, asyncStartAnswer, behindPointer, returned, returnOf, asyncReturnAnswer}
 
 -- what is asked of a description's table, most often of its last definition
-pub data Asked : Type 0 where
+pub data Query : Type 0 where
   -- size32, align32, size64, align64, flat count (255 for none)
-  numbersOf : Asked
+  numbersOf : Query
   -- where the payload stands, for 32 and 64
-  payloadOf : Asked
-  flatListOf : Memory → Asked
+  payloadOf : Query
+  flatListOf : Memory → Query
   -- the offsets of these references, then size and alignment
-  placesOf : Memory → List ℕ → Asked
+  placesOf : Memory → List ℕ → Query
   -- of a lower side and a lift side, each with its references: the parameters, then the results
-  startOfCall : Side → List ℕ → Side → List ℕ → Asked
+  startOfCall : Side → List ℕ → Side → List ℕ → Query
   -- of a lift side and a lower side
-  returnOfCall : Side → List ℕ → Side → List ℕ → Asked
+  returnOfCall : Side → List ℕ → Side → List ℕ → Query
 
 -- an empty table of two rows
 abbrev blank : List ℕ
@@ -70,7 +58,7 @@ codes inMemory = []
 abbrev bothCodes : Signature → List ℕ
 bothCodes s = map code (s .params) ++ map code (s .results)
 
-abbrev question : List ℕ → ℕ → Asked → Answer (List ℕ)
+abbrev question : List ℕ → ℕ → Query → Answer (List ℕ)
 question t n numbersOf = then (typeAnswer t n (last n)) (λ i. ok (numbersIn i))
 question t n payloadOf = ok (word (rowAt t (n - 1)) 9 ∷ word (rowAt t (n - 1)) 10 ∷ [])
 question t n (flatListOf m) = then (flattenAnswer m 16 t n (last n ∷ [])) (λ f. ok (codes f))
@@ -79,15 +67,15 @@ question t n (startOfCall a vs b ws) = then (asyncStartAnswer t n a vs b ws) (λ
 question t n (returnOfCall a vs b ws) = then (asyncReturnAnswer t n a vs b ws) (λ s. ok (bothCodes s))
 
 -- the build's own refusal, or the question's answer
-unfoldable pub asked : List ℕ → Asked → Answer (List ℕ)
+unfoldable pub asked : List ℕ → Query → Answer (List ℕ)
 asked ws q = then (buildAnswer ws blank) (λ n. question (tableAfter ws blank) n q)
 
 pub record Example : Type 0 where
   pub words : List ℕ
-  pub asks : Asked
+  pub asks : Query
   pub says : Answer (List ℕ)
 
-abbrev on : List ℕ → Asked → Answer (List ℕ) → Example
+abbrev on : List ℕ → Query → Answer (List ℕ) → Example
 on ws q a = record { words = ws; asks = q; says = a }
 
 abbrev side : Memory → Side
@@ -151,8 +139,8 @@ examples =
 pub examples-hold : map (λ e. asked (e .words) (e .asks)) examples ≡ map (λ e. e .says) examples
 unfolding
     asked atPosition then unless roundUp greatestAlign starts ends lastEnd recordSize greatestSize payloadOffset variantSize layout numbers
-    joinLists joinAll concat copies flatten addFlat maxFlat timesFlat sumFlat greatestFlat flatCount borrows pack unpack rowOf flatOf isAlignment goodLayout
+    joinLists joinAll concat copies flatten addFlat maxFlat timesFlat sumFlat greatestFlat flatCount joinReach reachWord wordReach goodReach reach pack unpack rowOf flatOf isAlignment goodLayout
     goodCount unusedZero goodAbi isDiscriminant isGood capacity place cell cellsFrom putFrom putRows reference caseOf membersOf casesOf kindOf typeOf
-    isTooLarge fitted bodied buildFrom build buildAnswer tableAfter plainInfo readRow read infos noTable ask askTwo typeAnswer firstOver orSize refusedAt
+    isTooLarge checked bodied buildFrom build buildAnswer tableAfter plainInfo readRow read infos noTable ask askTwo typeAnswer firstOver orSize refusedAt
     judged placed placing flatAll atMost flattenAnswer orPointer startOf asyncStartAnswer behindPointer returned returnOf asyncReturnAnswer
 examples-hold = refl

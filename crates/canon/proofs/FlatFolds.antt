@@ -10,29 +10,10 @@ use lib.Dec.{leb}
 use lib.ListN.{length, length-append}
 use borrow.Author.Tests.{lt-leb, le-leb, leb-true, leb-false}
 use Rattle.canon.specs.Answer.{lift2}
-use Rattle.canon.specs.Types.{Ty, Members, ∅, _◂_, Case, bare, holding, Cases, ∎, _▸_}
+use Rattle.canon.specs.Types.{Ty, Members, ∅, _◂_, Case, bare, holding, Cases, ∎, _▸_, Core}
 use Rattle.canon.specs.Layout.{Memory}
-use Rattle.canon.specs.Flat.{
-  Core,
-  joinLists,
-  joinAll,
-  concat,
-  copies,
-  capped,
-  addFlat,
-  maxFlat,
-  timesFlat,
-  sumFlat,
-  greatestFlat,
-  flatten,
-  memberFlats,
-  payloadFlat,
-  payloadFlats,
-  flatCount,
-  memberCounts,
-  payloadCount,
-  payloadCounts,
-}
+use Rattle.canon.specs.Flat.{joinLists, joinAll, concat, copies, capped, addFlat, maxFlat, timesFlat, sumFlat, greatestFlat}
+use Rattle.canon.specs.Flat.{flatten, memberFlats, payloadFlat, payloadFlats, flatCount, memberCounts, payloadCount, payloadCounts}
 use Rattle.canon.specs.Row.{Info, flatOf}
 use Rattle.canon.specs.Signature.{flatAll}
 
@@ -139,32 +120,32 @@ greatestFlat-more [] a = maxFlat-zero a ∙ sym (zero-maxFlat a)
 greatestFlat-more (b ∷ as′) a = ap (maxFlat b) (greatestFlat-more as′ a) ∙ maxFlat-assoc b (greatestFlat as′) a
 
 -- none, or at most 16
-data Small : Option ℕ → Type 0 where
-  missing : Small none
-  upTo16 : {n : ℕ} → n ≤ 16 → Small (some n)
+abbrev pub Small : Option ℕ → Type 0
+Small none = Unit {0}
+Small (some n) = n ≤ 16
 
 capped-small : (n : ℕ) → Small (capped n)
 capped-small n = go (leb n 16) refl
   where
     go : (b : Bool) → leb n 16 ≡ b → Small (cond b (some n) none)
-    go true h = upTo16 (leb-true n 16 h)
-    go false h = missing
+    go true h = leb-true n 16 h
+    go false h = tt
 
 addFlat-small : (a b : Option ℕ) → Small (addFlat a b)
 unfolding addFlat
-addFlat-small none b = missing
-addFlat-small (some m) none = missing
+addFlat-small none b = tt
+addFlat-small (some m) none = tt
 addFlat-small (some m) (some n) = capped-small (m + n)
 
 sumFlat-small : (cs : List (Option ℕ)) → Small (sumFlat cs)
 unfolding sumFlat
-sumFlat-small [] = upTo16 {n = 0} (omega arith)
+sumFlat-small [] = omega arith
 sumFlat-small (c ∷ cs) = addFlat-small c (sumFlat cs)
 
-add-nothing : {o : Option ℕ} → Small o → addFlat o (some 0) ≡ o
+add-nothing : (o : Option ℕ) → Small o → addFlat o (some 0) ≡ o
 unfolding addFlat
-add-nothing missing = refl
-add-nothing (upTo16 {n} h) = simp (le-leb (n + 0) 16 (omega arith)) (ap some (add-zero n))
+add-nothing none h = refl
+add-nothing (some n) h = simp (le-leb (n + 0) 16 (omega arith)) (ap some (add-zero n))
 
 -- the sum from left to right
 unfoldable pub sums : Option ℕ → List (Option ℕ) → Option ℕ
@@ -173,12 +154,12 @@ sums a (c ∷ cs) = sums (addFlat a c) cs
 
 sums-from : (a : Option ℕ) (cs : List (Option ℕ)) → Small a → sums a cs ≡ addFlat a (sumFlat cs)
 unfolding sums sumFlat
-sums-from a [] w = sym (add-nothing w)
+sums-from a [] w = sym (add-nothing a w)
 sums-from a (c ∷ cs) w = sums-from (addFlat a c) cs (addFlat-small a c) ∙ sym (addFlat-assoc a c (sumFlat cs))
 
 pub sums-sum : (cs : List (Option ℕ)) → sums (some 0) cs ≡ sumFlat cs
 sums-sum cs =
-    sums-from (some 0) cs (upTo16 {n = 0} (omega arith)) ∙ addFlat-comm (some 0) (sumFlat cs) ∙ add-nothing (sumFlat-small cs)
+    sums-from (some 0) cs (omega arith) ∙ addFlat-comm (some 0) (sumFlat cs) ∙ add-nothing (sumFlat cs) (sumFlat-small cs)
 
 -- the greatest from left to right
 unfoldable pub greats : Option ℕ → List (Option ℕ) → Option ℕ

@@ -11,8 +11,10 @@ pub mod Despecialize
 pub mod Sizes
 pub mod Refusals
 pub mod Cells
+pub mod Reaches
 pub mod Rows
+pub mod Bodies
 pub mod Built
-pub mod Asked
+pub mod Questions
 pub mod Stopped
 pub mod Capped

@@ -6,8 +6,8 @@ use native.Mathlib.Nat.{pow-suc, zero-div, mul-comm, div-div-eq-div-mul}
 use lib.Arith.{digits-div, digits-mod}
 use native.Mathlib.Omega.{arith}
 use lib.ListN.{length, getD}
-use Rattle.canon.specs.Flat.{Core, I32, I64, F32, F64}
 use Rattle.canon.specs.Pack.{code, pack, decode, unpack}
+use Rattle.canon.specs.Types.{Core, I32, I64, F32, F64}
 
 pub code-lt : (c : Core) → code c < 4
 code-lt I32 = omega arith
@@ -47,7 +47,7 @@ unpack-pack [] = refl
 unpack-pack (c ∷ cs) =
     rw (digits-mod (pack cs) (code-lt c), digits-div (pack cs) (code-lt c), decode-code c, unpack-pack cs)
 
-code-decode : (x : ℕ) → x < 4 → code (decode x) ≡ x
+pub code-decode : (x : ℕ) → x < 4 → code (decode x) ≡ x
 code-decode zero h = refl
 code-decode (suc zero) h = refl
 code-decode (suc (suc zero)) h = refl

@@ -11,16 +11,15 @@ use lib.Dec.{ltb}
 use lib.ListN.{length, getD, take, drop}
 use borrow.Author.Tests.{ltb-true, ltb-false, lt-ltb, le-ltb}
 use Rattle.canon.specs.Answer.{Leaf, is, no as refuses, ok, refused, tooLarge}
-use Rattle.canon.specs.Round.{roundUp}
-use Rattle.canon.specs.Types.{Ty, recordOf, tupleOf, Members}
-use Rattle.canon.specs.Layout.{Memory, mem32, mem64, Layout, largestNumber, starts, lastEnd, recordSize, recordLayout, layout, members}
-use Rattle.canon.specs.Placement.{LeastCommon, Placement, NoPlacement, NoneLater}
-use Rattle.canon.specs.Description.{Kind, kRecord, kTuple, kindOf, bodyLength, membersOf, typeOf, isTooLarge, Defined, fitted, bodied, define}
+use Rattle.canon.specs.Types.{Ty, recordOf, tupleOf, Members, Kind, kRecord, kTuple}
+use Rattle.canon.specs.Layout.{Memory, mem32, mem64, Layout, largestNumber, starts, lastEnd, recordSize, recordLayout, layout, members, roundUp}
+use Rattle.canon.specs.Description.{kindOf, shapeOf, bodyLength, membersOf, typeOf, isTooLarge, Defined, checked, bodied, define}
 use Rattle.canon.specs.Question.{firstOver, orSize, refusedAt, Placing, judged, placed}
 use Rattle.canon.proofs.Tests.{impossible, either-true}
 use Rattle.canon.proofs.Tightest.{Aligned, le-lastEnd, le-recordSize, greatestAlign-least, ours, tightest}
 use Rattle.canon.proofs.Alignments.{members-aligned}
 use Rattle.canon.proofs.Sizes.{tooLarge-size}
+use Rattle.canon.specs.Placement.{LeastCommon, Placement, NoPlacement, NoneLater}
 
 -- the size alone decides whether there is a placement
 pub large-iff : (fs : List Layout) → Aligned fs → (largestNumber < recordSize fs) ↔ NoPlacement fs
@@ -53,31 +52,31 @@ pub record Passes (ts : List Ty) (w : ℕ) (ws : List ℕ) (us : Members) : Type
   pub type : Members → Ty
   pub product : Product kind type
   pub known : kindOf w ≡ some kind
-  pub whole : bodyLength kind (getD ws 0 0) ≤ length ws
-  pub named : membersOf ts (drop 1 (take (bodyLength kind (getD ws 0 0)) ws)) ≡ some us
+  pub whole : bodyLength (shapeOf kind) (getD ws 0 0) ≤ length ws
+  pub named : membersOf ts (drop 1 (take (bodyLength (shapeOf kind) (getD ws 0 0)) ws)) ≡ some us
 
-fitted-six : (n : ℕ) (t : Ty) → (fitted n (some t) ≡ refuses tooLarge) ↔ (isTooLarge mem32 t || isTooLarge mem64 t ≡ true)
-unfolding fitted
-fitted-six n t = go (isTooLarge mem32 t || isTooLarge mem64 t)
+checked-six : (n : ℕ) (t : Ty) → (checked n (some t) ≡ refuses tooLarge) ↔ (isTooLarge mem32 t || isTooLarge mem64 t ≡ true)
+unfolding checked
+checked-six n t = go (isTooLarge mem32 t || isTooLarge mem64 t)
   where
     go : (b : Bool) → (cond {A = Leaf Defined} b (refuses tooLarge) (is (record { type = t; length = n })) ≡ refuses tooLarge) ↔ (b ≡ true)
     go true = (λ h. refl, λ h. refl)
     go false = (λ h. impossible (cc), λ h. impossible (cc))
 
 -- every earlier check passed: the definition comes to its last test
-define-fitted : {k : Kind} {type : Members → Ty} → Product k type → (ts : List Ty) (w : ℕ) (ws : List ℕ) (us : Members) → kindOf w ≡ some k →
-    bodyLength k (getD ws 0 0) ≤ length ws → membersOf ts (drop 1 (take (bodyLength k (getD ws 0 0)) ws)) ≡ some us →
-    define ts w ws ≡ fitted (bodyLength k (getD ws 0 0)) (some (type us))
+define-checked : {k : Kind} {type : Members → Ty} → Product k type → (ts : List Ty) (w : ℕ) (ws : List ℕ) (us : Members) → kindOf w ≡ some k →
+    bodyLength (shapeOf k) (getD ws 0 0) ≤ length ws → membersOf ts (drop 1 (take (bodyLength (shapeOf k) (getD ws 0 0)) ws)) ≡ some us →
+    define ts w ws ≡ checked (bodyLength (shapeOf k) (getD ws 0 0)) (some (type us))
 unfolding bodied typeOf
-define-fitted aRecord ts w ws us known whole named = simp (known, le-ltb _ _ whole, named)
-define-fitted aTuple ts w ws us known whole named = simp (known, le-ltb _ _ whole, named)
+define-checked aRecord ts w ws us known whole named = simp (known, le-ltb _ _ whole, named)
+define-checked aTuple ts w ws us known whole named = simp (known, le-ltb _ _ whole, named)
 
 pub refused-six : {ts : List Ty} {w : ℕ} {ws : List ℕ} {us : Members} → Passes ts w ws us →
     (define ts w ws ≡ refuses tooLarge) ↔ (NoPlacement (members mem32 us) ⊎ NoPlacement (members mem64 us))
 refused-six {ts} {w} {ws} {us} p =
-    let e : define ts w ws ≡ fitted (bodyLength (p .kind) (getD ws 0 0)) (some (p .type us)) =
-    define-fitted (p .product) ts w ws us (p .known) (p .whole) (p .named) in
-    let six = fitted-six (bodyLength (p .kind) (getD ws 0 0)) (p .type us) in
+    let e : define ts w ws ≡ checked (bodyLength (shapeOf (p .kind)) (getD ws 0 0)) (some (p .type us)) =
+    define-checked (p .product) ts w ws us (p .known) (p .whole) (p .named) in
+    let six = checked-six (bodyLength (shapeOf (p .kind)) (getD ws 0 0)) (p .type us) in
     let either = either-true (isTooLarge mem32 (p .type us)) (isTooLarge mem64 (p .type us)) in
     let large : (m : Memory) → (isTooLarge m (p .type us) ≡ true) ↔ NoPlacement (members m us) =
     λ m. members-large m (p .type us) us (product-size (p .product) m us) in (

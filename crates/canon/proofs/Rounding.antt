@@ -1,10 +1,17 @@
--- Rounding up gives the least multiple at or after, and the alignments divide one another.
+-- Rounding up gives the least multiple at or after; the four alignments, what tests them, and that they divide one another.
 use mathlib.Core.Path.{_≡_, refl}
+use mathlib.Core.Logic.{⊎-elim}
+use mathlib.Core.Bool.{true}
 use Prim.Native.Nat.{ℕ, suc, _+_, _-_, _*_, _/_, _≤_, _<_, _∣_, max}
-use native.Mathlib.Nat.{lt-div-mul-add, div-mul-cancel, div-lt-iff-lt-mul, mul-le-mul-right, dvd-mul-left, dvd-of-mod-eq-zero, max-eq-left, max-eq-right, lt-of-not-le}
+use native.Mathlib.Nat.{lt-div-mul-add, div-mul-cancel, div-lt-iff-lt-mul, mul-le-mul-right}
+use native.Mathlib.Nat.{dvd-mul-left, dvd-of-mod-eq-zero, max-eq-left, max-eq-right, lt-of-not-le}
 use native.Mathlib.Decide.{decLe}
 use native.Mathlib.Omega.{arith}
-use Rattle.canon.specs.Round.{roundUp, Alignment, by1, by2, by4, by8}
+use lib.Dec.{eqb}
+use borrow.Author.Tests.{eqb-true}
+use Rattle.canon.specs.Layout.{Memory, mem32, mem64, within, Layout, roundUp}
+use Rattle.canon.specs.Row.{Abi, isAlignment, goodLayout, goodAbi}
+use Rattle.canon.proofs.Tests.{both-true, either-true}
 
 pub le-roundUp : (x a : ℕ) → 0 < a → x ≤ roundUp x a
 unfolding roundUp
@@ -26,6 +33,42 @@ roundUp-least x a y h le d =
 -- the same number, whatever it is rounded from
 pub roundUp-mono : (x y a : ℕ) → 0 < a → x ≤ y → roundUp x a ≤ roundUp y a
 roundUp-mono x y a h le = roundUp-least x a (roundUp y a) h (omega (arith, le-roundUp y a h)) (dvd-roundUp y a)
+
+-- 01: "alignments are 1, 2, 4 or 8"
+pub data Alignment : ℕ → Type 0 where
+  by1 : Alignment 1
+  by2 : Alignment 2
+  by4 : Alignment 4
+  by8 : Alignment 8
+
+-- these pass the test, and nothing else does
+pub alignment-test : {a : ℕ} → Alignment a → isAlignment a ≡ true
+unfolding isAlignment
+alignment-test by1 = refl
+alignment-test by2 = refl
+alignment-test by4 = refl
+alignment-test by8 = refl
+
+is-one : {b : ℕ} (a : ℕ) → Alignment b → eqb a b ≡ true → Alignment a
+is-one {b} a w h = rw (eqb-true a b h) w
+
+pub alignment-tested : (a : ℕ) → isAlignment a ≡ true → Alignment a
+unfolding isAlignment
+alignment-tested a h =
+    ⊎-elim (is-one a by1)
+    (λ q. ⊎-elim (is-one a by2)
+    (λ r. ⊎-elim (is-one a by4) (is-one a by8) (either-true (eqb a 4) (eqb a 8) .0 r)) (either-true (eqb a 2) _ .0 q))
+    (either-true (eqb a 1) _ .0 h)
+
+layout-tested : (f : Layout) → goodLayout f ≡ true → Alignment (f .align)
+unfolding goodLayout
+layout-tested f h = alignment-tested (f .align) (both-true (isAlignment (f .align)) _ h .0)
+
+-- a good info is aligned in both memories
+pub abi-tested : (a : Abi) → goodAbi a ≡ true → (m : Memory) → Alignment (within m (a .layouts) .align)
+unfolding goodAbi
+abi-tested a h mem32 = layout-tested (a .layouts .in32) (both-true (goodLayout (a .layouts .in32)) _ h .0)
+abi-tested a h mem64 = layout-tested (a .layouts .in64) (both-true _ _ (both-true (goodLayout (a .layouts .in32)) _ h .1) .0)
 
 pub alignment-pos : {a : ℕ} → Alignment a → 0 < a
 alignment-pos by1 = omega arith

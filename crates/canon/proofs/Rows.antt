@@ -9,57 +9,20 @@ use lib.Dec.{leb, eqb}
 use lib.ListN.{length}
 use borrow.Author.Tests.{eqb-true, le-leb, eq-eqb, ne-eqb}
 use Rattle.canon.specs.Answer.{lift}
-use Rattle.canon.specs.Round.{Alignment, by1, by2, by4, by8}
-use Rattle.canon.specs.Types.{
-  Ty,
-  scalar,
-  string,
-  recordOf,
-  variantOf,
-  listOf,
-  tupleOf,
-  mapOf,
-  flagsOf,
-  enumOf,
-  optionOf,
-  resultOf,
-  fixedOf,
-  count,
-}
+use Rattle.canon.specs.Types.{Ty, scalar, string, recordOf, variantOf, listOf, tupleOf}
+use Rattle.canon.specs.Types.{mapOf, flagsOf, enumOf, optionOf, resultOf, fixedOf, count}
 use Rattle.canon.specs.Layout.{Memory, mem32, mem64, discriminant, layout}
 use Rattle.canon.specs.Flat.{flatten, flatCount}
-use Rattle.canon.specs.Borrow.{borrows}
+use Rattle.canon.specs.Reach.{reach}
 use Rattle.canon.specs.Pack.{unpack}
-use Rattle.canon.specs.Row.{
-  kindWord,
-  countWord,
-  countOf,
-  flatWord,
-  inner,
-  borrowWord,
-  rowOf,
-  rowAbi,
-  infoOf,
-  rowInfo,
-  flatOf,
-  isAlignment,
-  goodLayout,
-  goodCount,
-  unusedZero,
-  goodAbi,
-  isDiscriminant,
-  isGood,
-}
+use Rattle.canon.specs.Row.{rowKind, countWord, countOf, flatWord, inner, rowOf, rowAbi, infoOf, rowInfo}
+use Rattle.canon.specs.Row.{flatOf, goodLayout, goodCount, unusedZero, goodAbi, isDiscriminant, isGood}
+use Rattle.canon.proofs.Rounding.{alignment-test}
 use Rattle.canon.proofs.Alignments.{layout-aligned, layout-whole}
 use Rattle.canon.proofs.Packing.{pack-lt, unpack-pack}
+use Rattle.canon.proofs.FlatFolds.{Small}
+use Rattle.canon.proofs.Reaches.{word-back, good-word}
 use Rattle.canon.proofs.Counts.{counted}
-
-alignment-test : {a : ℕ} → Alignment a → isAlignment a ≡ true
-unfolding isAlignment
-alignment-test by1 = refl
-alignment-test by2 = refl
-alignment-test by4 = refl
-alignment-test by8 = refl
 
 pub layout-good : (m : Memory) (t : Ty) → goodLayout (layout m t) ≡ true
 unfolding goodLayout
@@ -69,10 +32,6 @@ layout-good m t =
 -- the count of a type, none or at most 16
 count-small : (t : Ty) (n : ℕ) → flatCount t ≡ some n → n ≤ 16
 count-small t n e = counted mem32 t n .0 e .1
-
-abbrev Small : Option ℕ → Type 0
-Small none = Unit {0}
-Small (some n) = n ≤ 16
 
 pub flatCount-small : (t : Ty) → Small (flatCount t)
 flatCount-small t = go (flatCount t) refl
@@ -131,7 +90,7 @@ inner-good (optionOf t) = discriminant-good 2
 inner-good (resultOf ok err) = discriminant-good 2
 inner-good (fixedOf t n) = refl
 
-kind-small : (t : Ty) → kindWord t ≤ 10
+kind-small : (t : Ty) → rowKind t ≤ 10
 kind-small (scalar s) = omega arith
 kind-small string = omega arith
 kind-small (recordOf ts) = omega arith
@@ -145,13 +104,9 @@ kind-small (optionOf t) = omega arith
 kind-small (resultOf ok err) = omega arith
 kind-small (fixedOf t n) = omega arith
 
-borrow-good : (b : Bool) → leb (borrowWord b) 1 ≡ true
-borrow-good true = refl
-borrow-good false = refl
-
 -- a type that a definition spells: its kind word is not 0
 abbrev pub Definition : Ty → Type 0
-Definition t = 1 ≤ kindWord t
+Definition t = 1 ≤ rowKind t
 
 pub row-good : (t : Ty) → Definition t → isGood (rowOf t) ≡ true
 unfolding isGood rowOf goodAbi
@@ -159,8 +114,8 @@ row-good t d =
     let l32 : goodLayout (rowAbi (rowOf t) .layouts .in32) ≡ true = layout-good mem32 t in
     let l64 : goodLayout (rowAbi (rowOf t) .layouts .in64) ≡ true = layout-good mem64 t in
     simp (
-      le-leb 1 (kindWord t) d,
-      le-leb (kindWord t) 10 (kind-small t),
+      le-leb 1 (rowKind t) d,
+      le-leb (rowKind t) 10 (kind-small t),
       l32,
       l64,
       countOf-countWord (flatCount t) (flatCount-small t),
@@ -168,16 +123,12 @@ row-good t d =
       unused-good mem32 t,
       unused-good mem64 t,
       inner-good t,
-      borrow-good (borrows t),
+      good-word (reach t),
     )
-
-borrow-back : (b : Bool) → eqb (borrowWord b) 1 ≡ b
-borrow-back true = refl
-borrow-back false = refl
 
 pub row-back : (t : Ty) → rowInfo (rowOf t) ≡ infoOf t
 unfolding rowOf
-row-back t = rw (countOf-countWord (flatCount t) (flatCount-small t), borrow-back (borrows t))
+row-back t = rw (countOf-countWord (flatCount t) (flatCount-small t), word-back (reach t))
 
 -- the flat list that a question takes from it is the type's own
 

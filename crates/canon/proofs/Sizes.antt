@@ -6,50 +6,16 @@ use Prim.Native.Nat.{ℕ, _+_, _≤_, _<_}
 use native.Mathlib.Omega.{arith}
 use lib.Dec.{ltb}
 use borrow.Author.Tests.{ltb-false, le-ltb, ltb-true, lt-ltb}
-use Rattle.canon.specs.Round.{roundUp}
-use Rattle.canon.specs.Types.{
-  Ty,
-  scalar,
-  string,
-  recordOf,
-  variantOf,
-  listOf,
-  tupleOf,
-  mapOf,
-  flagsOf,
-  enumOf,
-  optionOf,
-  resultOf,
-  fixedOf,
-  count,
-  entryOf,
-}
-use Rattle.canon.specs.Layout.{
-  Memory,
-  mem32,
-  mem64,
-  Layout,
-  largestNumber,
-  starts,
-  ends,
-  lastEnd,
-  recordSize,
-  recordNumbers,
-  greatestSize,
-  payloadOffset,
-  variantSize,
-  variantNumbers,
-  layout,
-  members,
-  payload,
-  payloads,
-  numbers,
-}
-use Rattle.canon.specs.Placement.{Every}
+use Rattle.canon.specs.Types.{Ty, scalar, string, recordOf, variantOf, listOf, tupleOf}
+use Rattle.canon.specs.Types.{mapOf, flagsOf, enumOf, optionOf, resultOf, fixedOf, count}
+use Rattle.canon.specs.Layout.{Memory, mem32, mem64, Layout, largestNumber, starts, ends, lastEnd, recordSize, recordNumbers}
+use Rattle.canon.specs.Layout.{greatestSize, payloadOffset, variantSize, variantNumbers, layout, members, payload, payloads, numbers, roundUp}
 use Rattle.canon.specs.Description.{someAbove, isTooLarge}
 use Rattle.canon.proofs.Rounding.{le-roundUp, alignment-pos}
 use Rattle.canon.proofs.Tightest.{Aligned, le-lastEnd, le-recordSize}
 use Rattle.canon.proofs.Alignments.{layout-aligned, members-aligned, payload-aligned, payloads-aligned, variant-alignment, aligned-append}
+use Rattle.canon.proofs.Despecialize.{entryOf}
+use Rattle.canon.specs.Placement.{Every}
 
 pub above-append : (n : ℕ) (xs ys : List ℕ) → someAbove n (xs ++ ys) ≡ (someAbove n xs || someAbove n ys)
 above-append n [] ys = refl

@@ -12,32 +12,15 @@ use lib.Dec.{ltb}
 use lib.ListN.{length, getD, take, drop, length-append}
 use borrow.Author.Tests.{ltb-false, lt-ltb, le-ltb}
 use Rattle.canon.specs.Answer.{Leaf, is, no as refuses, refused, lift, tooLong, truncated, tooLarge, noRoom}
-use Rattle.canon.specs.Types.{Ty, Members}
+use Rattle.canon.specs.Types.{Ty, Members, Kind}
 use Rattle.canon.specs.Layout.{mem32, mem64, members}
 use Rattle.canon.specs.Table.{capacity}
-use Rattle.canon.specs.Placement.{NoPlacement}
-use Rattle.canon.specs.Description.{
-  Kind,
-  kindOf,
-  bodyLength,
-  membersOf,
-  typeOf,
-  Defined,
-  fitted,
-  bodied,
-  define,
-  Built,
-  follow,
-  buildFrom,
-  mostWords,
-  build,
-  answered,
-  built,
-  buildAnswer,
-}
+use Rattle.canon.specs.Description.{kindOf, shapeOf, bodyLength, membersOf, typeOf, Defined, checked, bodied}
+use Rattle.canon.specs.Description.{define, Built, follow, buildFrom, mostWords, build, answered, built, buildAnswer}
 use Rattle.canon.proofs.Tests.{impossible}
 use Rattle.canon.proofs.Refusals.{Product, aRecord, aTuple, Passes, refused-six}
 use Rattle.canon.proofs.Built.{build-keeps, Sound, keeps-step}
+use Rattle.canon.specs.Placement.{NoPlacement}
 
 -- one definition more
 pub sound-more : (room : ℕ) (ts : List Ty) (w : ℕ) (ws : List ℕ) (d : Defined) → define ts w ws ≡ is d → Sound room ts → length ts < room → Sound room (ts ++ d .type ∷ [])
@@ -146,15 +129,15 @@ stopped-six ws t i = stopped-at ws t tooLarge i (λ e. omega arith) (λ e. omega
 passed :
     {k : Kind} {type : Members → Ty} → Product k type → (ts : List Ty) (w : ℕ) (vs : List ℕ) → kindOf w ≡ some k →
     (b : Bool) (o : Option Members) →
-    ltb (length vs) (bodyLength k (getD vs 0 0)) ≡ b →
-    membersOf ts (drop 1 (take (bodyLength k (getD vs 0 0)) vs)) ≡ o →
-    cond b (refuses truncated) (fitted (bodyLength k (getD vs 0 0)) (lift type o)) ≡ refuses tooLarge →
+    ltb (length vs) (bodyLength (shapeOf k) (getD vs 0 0)) ≡ b →
+    membersOf ts (drop 1 (take (bodyLength (shapeOf k) (getD vs 0 0)) vs)) ≡ o →
+    cond b (refuses truncated) (checked (bodyLength (shapeOf k) (getD vs 0 0)) (lift type o)) ≡ refuses tooLarge →
     (us : Members) × Passes ts w vs us
-unfolding fitted
+unfolding checked
 passed p ts w vs known true o h n e = absurd (impossible (cc))
 passed p ts w vs known false none h n e = absurd (impossible (cc))
 passed {k} {type} p ts w vs known false (some us) h n e =
-    (us, record { kind = k; type = type; product = p; known = known; whole = ltb-false (length vs) (bodyLength k (getD vs 0 0)) h; named = n })
+    (us, record { kind = k; type = type; product = p; known = known; whole = ltb-false (length vs) (bodyLength (shapeOf k) (getD vs 0 0)) h; named = n })
 
 six-passes : {k : Kind} {type : Members → Ty} → Product k type → (ts : List Ty) (w : ℕ) (vs : List ℕ) → kindOf w ≡ some k → define ts w vs ≡ refuses tooLarge → (us : Members) × Passes ts w vs us
 unfolding bodied typeOf

@@ -13,6 +13,10 @@ pub both-true : (a b : Bool) → a && b ≡ true → (a ≡ true) × (b ≡ true
 both-true true b h = (refl, h)
 both-true false b h = impossible (cc)
 
+pub neither : (a b : Bool) → a || b ≡ false → (a ≡ false) × (b ≡ false)
+neither true b h = impossible (cc)
+neither false b h = (refl, h)
+
 pub either-true : (a b : Bool) → (a || b ≡ true) ↔ ((a ≡ true) ⊎ (b ≡ true))
 either-true true b = (λ h. inl refl, λ h. refl)
 either-true false b = (inr, ⊎-elim (λ h. impossible (cc)) (λ h. h))

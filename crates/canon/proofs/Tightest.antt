@@ -4,10 +4,9 @@ use mathlib.Core.List.{List, [], _∷_}
 use Prim.Native.Nat.{ℕ, _+_, _≤_, _<_, _∣_, max}
 use native.Mathlib.Nat.{le-of-dvd, dvd-trans, le-max-left, le-max-right, le-antisymm}
 use native.Mathlib.Omega.{arith}
-use Rattle.canon.specs.Round.{roundUp, Alignment, by1}
-use Rattle.canon.specs.Layout.{Layout, greatestAlign, starts, lastEnd, recordSize}
+use Rattle.canon.specs.Layout.{Layout, greatestAlign, starts, lastEnd, recordSize, roundUp}
+use Rattle.canon.proofs.Rounding.{le-roundUp, dvd-roundUp, roundUp-least, alignment-pos, alignment-dvd, max-alignment, Alignment, by1}
 use Rattle.canon.specs.Placement.{Every, fourGiB, Placed, done, next, LeastCommon, Placement, NoneLater}
-use Rattle.canon.proofs.Rounding.{le-roundUp, dvd-roundUp, roundUp-least, alignment-pos, alignment-dvd, max-alignment}
 
 -- each alignment is one of the standard's
 abbrev pub Aligned : List Layout → Type 0

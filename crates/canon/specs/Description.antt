@@ -5,76 +5,16 @@ use mathlib.Core.Option.{Option, none, some}
 use Prim.Native.Nat.{ℕ, zero, suc, _+_, _-_}
 use lib.Dec.{leb, ltb, eqb}
 use lib.ListN.{length, getD, take, drop, getElem?}
-use Rattle.canon.specs.Types.{
-  bool,
-  s8,
-  u8,
-  s16,
-  u16,
-  s32,
-  u32,
-  s64,
-  u64,
-  float32,
-  float64,
-  char,
-  own,
-  borrowed,
-  future,
-  stream,
-  errorContext,
-  Ty,
-  scalar,
-  string,
-  recordOf,
-  variantOf,
-  listOf,
-  tupleOf,
-  mapOf,
-  flagsOf,
-  enumOf,
-  optionOf,
-  resultOf,
-  fixedOf,
-  Members,
-  ∅,
-  _◂_,
-  Case,
-  bare,
-  holding,
-  Cases,
-  ∎,
-  _▸_,
-}
-use Rattle.canon.specs.Layout.{Memory, mem32, mem64, largestNumber, numbers}
+use Rattle.canon.specs.Types.{Ty, recordOf, variantOf, listOf, tupleOf, mapOf, flagsOf, enumOf, optionOf, resultOf, fixedOf, plain}
+use Rattle.canon.specs.Types.{Members, ∅, _◂_, Case, bare, holding, Cases, ∎, _▸_}
+use Rattle.canon.specs.Types.{Kind, kRecord, kVariant, kList, kTuple, kMap, kFlags, kEnum, kOption, kResult, kFixed, kindWord}
+use Rattle.canon.specs.Layout.{Memory, mem32, mem64, mostFlags, largestNumber, numbers}
 use Rattle.canon.specs.Row.{rowOf}
 use Rattle.canon.specs.Table.{capacity, putRows}
-use Rattle.canon.specs.Answer.{Leaf, is, no, Answer, ok, refused, lift, lift2, tooLong, truncated, badKind, badRef, badCount, tooLarge, noRoom}
+use Rattle.canon.specs.Answer.{Leaf, is, no, Answer, ok, refused, lift, lift2}
+use Rattle.canon.specs.Answer.{tooLong, truncated, badKind, badRef, badCount, tooLarge, noRoom}
 
 -- References
-
--- "0 to 12 mean Bool, S8, .., String; 13 to 17 mean Own, Borrow, Future, Stream, ErrorContext"
-abbrev pub plain : List Ty
-plain =
-    scalar bool
-    ∷ scalar s8
-    ∷ scalar u8
-    ∷ scalar s16
-    ∷ scalar u16
-    ∷ scalar s32
-    ∷ scalar u32
-    ∷ scalar s64
-    ∷ scalar u64
-    ∷ scalar float32
-    ∷ scalar float64
-    ∷ scalar char
-    ∷ string
-    ∷ scalar own
-    ∷ scalar borrowed
-    ∷ scalar future
-    ∷ scalar stream
-    ∷ scalar errorContext
-    ∷ []
 
 -- "64+j means definition j", here one of ts. "All other words are bad references": none
 unfoldable pub reference : List Ty → ℕ → Option Ty
@@ -95,44 +35,43 @@ unfoldable pub casesOf : List Ty → List ℕ → Option Cases
 casesOf ts [] = some ∎
 casesOf ts (w ∷ ws) = lift2 _▸_ (caseOf ts w) (casesOf ts ws)
 
--- the types that a question's references name
-unfoldable pub named : List Ty → List ℕ → Option (List Ty)
-named ts [] = some []
-named ts (w ∷ ws) = lift2 _∷_ (reference ts w) (named ts ws)
-
 -- One definition: a kind word, then its body
 
-pub data Kind : Type 0 where
-  kRecord kVariant kList kTuple kMap kFlags kEnum kOption kResult kFixed : Kind
-
-abbrev pub isKind : ℕ → ℕ → Kind → Option Kind → Option Kind
-isKind w n k else = cond (eqb w n) (some k) else
+-- the one of these kinds whose word it is
+abbrev kindAmong : List Kind → ℕ → Option Kind
+kindAmong [] w = none
+kindAmong (k ∷ ks) w = cond (eqb w (kindWord k)) (some k) (kindAmong ks w)
 
 unfoldable pub kindOf : ℕ → Option Kind
-kindOf w =
-    isKind w 1 kRecord
-    (isKind w 2 kVariant
-    (isKind w 3 kList
-    (isKind w 4 kTuple
-    (isKind w 5 kMap
-    (isKind w 6 kFlags
-    (isKind w 7 kEnum
-    (isKind w 8 kOption
-    (isKind w 9 kResult
-    (isKind w 10 kFixed none)))))))))
+kindOf w = kindAmong (kRecord ∷ kVariant ∷ kList ∷ kTuple ∷ kMap ∷ kFlags ∷ kEnum ∷ kOption ∷ kResult ∷ kFixed ∷ []) w
 
--- how many words follow the kind word, where the first of them is n
-abbrev pub bodyLength : Kind → ℕ → ℕ
-bodyLength kRecord n = 1 + n
-bodyLength kVariant n = 1 + n
-bodyLength kList n = 1
-bodyLength kTuple n = 1 + n
-bodyLength kMap n = 2
-bodyLength kFlags n = 1
-bodyLength kEnum n = 1
-bodyLength kOption n = 1
-bodyLength kResult n = 2
-bodyLength kFixed n = 2
+-- what follows a kind word: a count n, then n references; or so many references, then so many numbers
+pub data Shape : Type 0 where
+  counted : Shape
+  fixed : ℕ → ℕ → Shape
+
+-- 01: "n, n references", "one reference", "key, value", "n", "ok, err", "reference, count"
+abbrev pub shapeOf : Kind → Shape
+shapeOf kRecord = counted
+shapeOf kVariant = counted
+shapeOf kList = fixed 1 0
+shapeOf kTuple = counted
+shapeOf kMap = fixed 2 0
+shapeOf kFlags = fixed 0 1
+shapeOf kEnum = fixed 0 1
+shapeOf kOption = fixed 1 0
+shapeOf kResult = fixed 2 0
+shapeOf kFixed = fixed 1 1
+
+-- how many words a body has, where the first of them is n
+abbrev pub bodyLength : Shape → ℕ → ℕ
+bodyLength counted n = 1 + n
+bodyLength (fixed r k) n = r + k
+
+-- the words of a body that are references or marks
+abbrev pub referencesOf : Shape → List ℕ → List ℕ
+referencesOf counted b = drop 1 b
+referencesOf (fixed r k) b = take r b
 
 -- refusal 5: "variant or enum with n = 0, flags above 32"
 abbrev pub isBadCount : Kind → ℕ → Bool
@@ -141,7 +80,7 @@ isBadCount kVariant n = eqb n 0
 isBadCount kList n = false
 isBadCount kTuple n = false
 isBadCount kMap n = false
-isBadCount kFlags n = ltb 32 n
+isBadCount kFlags n = ltb mostFlags n
 isBadCount kEnum n = eqb n 0
 isBadCount kOption n = false
 isBadCount kResult n = false
@@ -174,17 +113,17 @@ pub record Defined : Type 0 where
   pub length : ℕ
 
 -- the last two tests of a definition: "BadRef, TooLarge (in either memory, map entries included)"
-unfoldable pub fitted : ℕ → Option Ty → Leaf Defined
-fitted n none = no badRef
-fitted n (some t) = cond (isTooLarge mem32 t || isTooLarge mem64 t) (no tooLarge) (is (record { type = t; length = n }))
+unfoldable pub checked : ℕ → Option Ty → Leaf Defined
+checked n none = no badRef
+checked n (some t) = cond (isTooLarge mem32 t || isTooLarge mem64 t) (no tooLarge) (is (record { type = t; length = n }))
 
 -- "BadKind, Truncated, BadCount", then those two; ws are the words after the kind word
 unfoldable pub bodied : List Ty → Option Kind → List ℕ → Leaf Defined
 bodied ts none ws = no badKind
 bodied ts (some k) ws =
-    cond (ltb (length ws) (bodyLength k (getD ws 0 0))) (no truncated)
+    cond (ltb (length ws) (bodyLength (shapeOf k) (getD ws 0 0))) (no truncated)
     (cond (isBadCount k (getD ws 0 0)) (no badCount)
-    (fitted (bodyLength k (getD ws 0 0)) (typeOf ts k (take (bodyLength k (getD ws 0 0)) ws))))
+    (checked (bodyLength (shapeOf k) (getD ws 0 0)) (typeOf ts k (take (bodyLength (shapeOf k) (getD ws 0 0)) ws))))
 
 abbrev pub define : List Ty → ℕ → List ℕ → Leaf Defined
 define ts w ws = bodied ts (kindOf w) ws

@@ -1,78 +1,12 @@
 -- Flat types of each type (CanonicalABI.md, flatten_type and join), and 01's flat count.
-use mathlib.Core.Path.{_≡_}
-use mathlib.Core.Logic.{_⊎_}
 use mathlib.Core.Bool.{cond}
 use mathlib.Core.List.{List, [], _∷_, _++_}
 use mathlib.Core.Option.{Option, none, some}
 use Prim.Native.Nat.{ℕ, zero, suc, _+_, _*_, max}
 use lib.Dec.{leb}
-use Rattle.canon.specs.Types.{
-  Scalar,
-  bool,
-  s8,
-  u8,
-  s16,
-  u16,
-  s32,
-  u32,
-  s64,
-  u64,
-  float32,
-  float64,
-  char,
-  own,
-  borrowed,
-  future,
-  stream,
-  errorContext,
-  Ty,
-  scalar,
-  string,
-  recordOf,
-  variantOf,
-  listOf,
-  tupleOf,
-  mapOf,
-  flagsOf,
-  enumOf,
-  optionOf,
-  resultOf,
-  fixedOf,
-  Members,
-  ∅,
-  _◂_,
-  Case,
-  bare,
-  holding,
-  Cases,
-  ∎,
-  _▸_,
-}
+use Rattle.canon.specs.Types.{Ty, scalar, string, recordOf, variantOf, listOf, tupleOf, mapOf, flagsOf, enumOf, optionOf, resultOf, fixedOf}
+use Rattle.canon.specs.Types.{Core, I32, I64, F32, F64, facts, Members, ∅, _◂_, Case, bare, holding, Cases, ∎, _▸_}
 use Rattle.canon.specs.Layout.{Memory, mem32, mem64}
-
--- the core types that a flat value is made of
-pub data Core : Type 0 where
-  I32 I64 F32 F64 : Core
-
--- 01: "64-bit integers I64, Float32 F32, Float64 F64, other scalars I32"
-abbrev pub scalarFlat : Scalar → Core
-scalarFlat bool = I32
-scalarFlat s8 = I32
-scalarFlat u8 = I32
-scalarFlat s16 = I32
-scalarFlat u16 = I32
-scalarFlat s32 = I32
-scalarFlat u32 = I32
-scalarFlat s64 = I64
-scalarFlat u64 = I64
-scalarFlat float32 = F32
-scalarFlat float64 = F64
-scalarFlat char = I32
-scalarFlat own = I32
-scalarFlat borrowed = I32
-scalarFlat future = I32
-scalarFlat stream = I32
-scalarFlat errorContext = I32
 
 -- CanonicalABI.md, ptr_type
 abbrev pub ptrType : Memory → Core
@@ -134,7 +68,7 @@ variantFlat ls = I32 ∷ joinAll [] ls
 module _ (m : Memory) where
   unfoldable mutual
     pub flatten : Ty → List Core
-    flatten (scalar s) = scalarFlat s ∷ []
+    flatten (scalar s) = facts s .core ∷ []
     flatten string = pairFlat m
     flatten (recordOf ts) = concat (memberFlats ts)
     flatten (variantOf cs) = variantFlat (payloadFlats cs)
@@ -221,31 +155,3 @@ unfoldable mutual
   pub payloadCounts : Cases → List (Option ℕ)
   payloadCounts ∎ = []
   payloadCounts (c ▸ cs) = payloadCount c ++ payloadCounts cs
-
--- 01's rule and the flat list part ways at one place: a fixed list of count 0 over an element without a count, met outside a list or map
-unfoldable mutual
-  pub Gap : Ty → Type 0
-  Gap (scalar s) = ⊥
-  Gap string = ⊥
-  Gap (recordOf ts) = GapIn ts
-  Gap (variantOf cs) = GapAmong cs
-  Gap (listOf t) = ⊥
-  Gap (tupleOf ts) = GapIn ts
-  Gap (mapOf k v) = ⊥
-  Gap (flagsOf n) = ⊥
-  Gap (enumOf n) = ⊥
-  Gap (optionOf t) = Gap t
-  Gap (resultOf ok err) = GapOf ok ⊎ GapOf err
-  Gap (fixedOf t n) = ((n ≡ 0) × (flatCount t ≡ none)) ⊎ Gap t
-
-  pub GapIn : Members → Type 0
-  GapIn ∅ = ⊥
-  GapIn (t ◂ ts) = Gap t ⊎ GapIn ts
-
-  pub GapOf : Case → Type 0
-  GapOf bare = ⊥
-  GapOf (holding t) = Gap t
-
-  pub GapAmong : Cases → Type 0
-  GapAmong ∎ = ⊥
-  GapAmong (c ▸ cs) = GapOf c ⊎ GapAmong cs

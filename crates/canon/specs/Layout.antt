@@ -1,52 +1,10 @@
 -- Size and alignment of each type in one memory (CanonicalABI.md, alignment and elem_size; 01, "Layout rules").
 use mathlib.Core.Bool.{cond}
 use mathlib.Core.List.{List, [], _∷_, _++_}
-use Prim.Native.Nat.{ℕ, _+_, _*_, max}
+use Prim.Native.Nat.{ℕ, _+_, _-_, _*_, _/_, max}
 use lib.Dec.{leb}
-use Rattle.canon.specs.Round.{roundUp}
-use Rattle.canon.specs.Types.{
-  Scalar,
-  bool,
-  s8,
-  u8,
-  s16,
-  u16,
-  s32,
-  u32,
-  s64,
-  u64,
-  float32,
-  float64,
-  char,
-  own,
-  borrowed,
-  future,
-  stream,
-  errorContext,
-  Ty,
-  scalar,
-  string,
-  recordOf,
-  variantOf,
-  listOf,
-  tupleOf,
-  mapOf,
-  flagsOf,
-  enumOf,
-  optionOf,
-  resultOf,
-  fixedOf,
-  Members,
-  ∅,
-  _◂_,
-  Case,
-  bare,
-  holding,
-  Cases,
-  ∎,
-  _▸_,
-  count,
-}
+use Rattle.canon.specs.Types.{Ty, scalar, string, recordOf, variantOf, listOf, tupleOf, mapOf, flagsOf, enumOf, optionOf, resultOf, fixedOf}
+use Rattle.canon.specs.Types.{facts, Members, ∅, _◂_, Case, bare, holding, Cases, ∎, _▸_, count}
 
 -- the memory, by the width of its pointers
 pub data Memory : Type 0 where
@@ -73,26 +31,6 @@ pub record Layout : Type 0 where
 abbrev pub square : ℕ → Layout
 square n = record { size = n; align = n }
 
--- 01: "1, 2, 4 or 8 bytes, alignment equal to size", "Char and references 13 to 17: 4"
-abbrev pub scalarSize : Scalar → ℕ
-scalarSize bool = 1
-scalarSize s8 = 1
-scalarSize u8 = 1
-scalarSize s16 = 2
-scalarSize u16 = 2
-scalarSize s32 = 4
-scalarSize u32 = 4
-scalarSize s64 = 8
-scalarSize u64 = 8
-scalarSize float32 = 4
-scalarSize float64 = 8
-scalarSize char = 4
-scalarSize own = 4
-scalarSize borrowed = 4
-scalarSize future = 4
-scalarSize stream = 4
-scalarSize errorContext = 4
-
 -- CanonicalABI.md, ptr_size
 abbrev pub ptrSize : Memory → ℕ
 ptrSize mem32 = 4
@@ -101,6 +39,10 @@ ptrSize mem64 = 8
 -- a pointer and a length. 01: "String, list, map: 8 with alignment 4, or 16 with alignment 8"
 abbrev pub pairLayout : Memory → Layout
 pairLayout m = record { size = ptrSize m + ptrSize m; align = ptrSize m }
+
+-- align_to: the quotient x / a rounded up, times a
+unfoldable pub roundUp : ℕ → ℕ → ℕ
+roundUp x a = (x + (a - 1)) / a * a
 
 -- alignment_record and max_case_alignment: "the greatest of the members', 1 for none"
 unfoldable pub greatestAlign : List Layout → ℕ
@@ -150,7 +92,11 @@ variantSize n fs = roundUp (payloadOffset n fs + greatestSize fs) (variantAlign 
 abbrev pub variantLayout : ℕ → List Layout → Layout
 variantLayout n fs = record { size = variantSize n fs; align = variantAlign n fs }
 
--- 01: "n = 0 gives 0, 1, flat 0; to 8, one byte; to 16, two; to 32, four". A build accepts none above 32 (refusal 5)
+-- refusal 5: "flags above 32"
+abbrev pub mostFlags : ℕ
+mostFlags = 32
+
+-- 01: "n = 0 gives 0, 1, flat 0; to 8, one byte; to 16, two; to 32, four"
 abbrev pub flagsLayout : ℕ → Layout
 flagsLayout n = cond (leb n 0) (record { size = 0; align = 1 }) (cond (leb n 8) (square 1) (cond (leb n 16) (square 2) (square 4)))
 
@@ -161,7 +107,7 @@ fixedLayout f n = record { size = f .size * n; align = f .align }
 module _ (m : Memory) where
   unfoldable mutual
     pub layout : Ty → Layout
-    layout (scalar s) = square (scalarSize s)
+    layout (scalar s) = square (facts s .size)
     layout string = pairLayout m
     layout (recordOf ts) = recordLayout (members ts)
     layout (variantOf cs) = variantLayout (count cs) (payloads cs)
@@ -186,12 +132,6 @@ module _ (m : Memory) where
     payloads ∎ = []
     payloads (c ▸ cs) = payload c ++ payloads cs
 
-  abbrev pub elemSize : Ty → ℕ
-  elemSize t = layout t .size
-
-  abbrev pub alignment : Ty → ℕ
-  alignment t = layout t .align
-
 -- 01, refusal 6: "a start, end or size above 4294967295"
 
 abbrev pub largestNumber : ℕ
@@ -207,15 +147,15 @@ variantNumbers n fs = payloadOffset n fs ∷ (payloadOffset n fs + greatestSize 
 
 -- every number that has to fit; of a map its entry's, too
 unfoldable pub numbers : Memory → Ty → List ℕ
-numbers m (scalar s) = elemSize m (scalar s) ∷ []
-numbers m string = elemSize m string ∷ []
+numbers m (scalar s) = layout m (scalar s) .size ∷ []
+numbers m string = layout m string .size ∷ []
 numbers m (recordOf ts) = recordNumbers (members m ts)
 numbers m (variantOf cs) = variantNumbers (count cs) (payloads m cs)
-numbers m (listOf t) = elemSize m (listOf t) ∷ []
+numbers m (listOf t) = layout m (listOf t) .size ∷ []
 numbers m (tupleOf ts) = recordNumbers (members m ts)
-numbers m (mapOf k v) = elemSize m (mapOf k v) ∷ recordNumbers (layout m k ∷ layout m v ∷ [])
-numbers m (flagsOf n) = elemSize m (flagsOf n) ∷ []
+numbers m (mapOf k v) = layout m (mapOf k v) .size ∷ recordNumbers (layout m k ∷ layout m v ∷ [])
+numbers m (flagsOf n) = layout m (flagsOf n) .size ∷ []
 numbers m (enumOf n) = variantNumbers n []
 numbers m (optionOf t) = variantNumbers 2 (layout m t ∷ [])
 numbers m (resultOf ok err) = variantNumbers 2 (payload m ok ++ payload m err)
-numbers m (fixedOf t n) = elemSize m (fixedOf t n) ∷ []
+numbers m (fixedOf t n) = layout m (fixedOf t n) .size ∷ []

@@ -1,11 +1,10 @@
 -- The Canonical ABI as mathematics, and what document 01 adds to it: what a reader has to believe. Laws are in proofs/.
 pub mod Answer
-pub mod Round
 pub mod Types
 pub mod Layout
 pub mod Flat
-pub mod Borrow
 pub mod Placement
+pub mod Reach
 pub mod Pack
 pub mod Row
 pub mod Table

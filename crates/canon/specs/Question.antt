@@ -5,13 +5,14 @@ use mathlib.Core.Option.{Option, none, some}
 use Prim.Native.Nat.{ℕ, suc, _+_, _-_, _*_}
 use lib.Dec.{leb, ltb}
 use lib.ListN.{length, drop, getElem?}
-use Rattle.canon.specs.Round.{roundUp}
-use Rattle.canon.specs.Types.{Ty}
-use Rattle.canon.specs.Layout.{Memory, within, Layout, starts, recordLayout, recordSize, largestNumber}
+use Rattle.canon.specs.Types.{Ty, plain}
+use Rattle.canon.specs.Layout.{Memory, within, Layout, roundUp, starts, recordLayout, recordSize, largestNumber}
+use Rattle.canon.specs.Reach.{Reach, noReach, joinReach}
 use Rattle.canon.specs.Row.{Info, infoOf, rowInfo, isGood}
 use Rattle.canon.specs.Table.{rowAt}
-use Rattle.canon.specs.Description.{plain, mostWords}
-use Rattle.canon.specs.Answer.{Leaf, is, no, Answer, ok, refused, atPosition, then, unless, tooLong, badRef, badCount, tooLarge, noRoom, badRow}
+use Rattle.canon.specs.Description.{mostWords}
+use Rattle.canon.specs.Answer.{Leaf, is, no, Answer, ok, refused, atPosition, then, unless}
+use Rattle.canon.specs.Answer.{tooLong, badRef, badCount, tooLarge, noRoom, badRow}
 
 -- what a word below 64 stands for
 unfoldable pub plainInfo : Option Ty → Leaf Info
@@ -105,17 +106,17 @@ unfoldable pub placementAnswer : Memory → List ℕ → ℕ → List ℕ → �
 placementAnswer m t n ws room = then (placing m t n ws room) (λ p. ok (p .layout))
 
 -- the lent buffer afterwards: "later words kept", and a refusal "writes nothing"
-unfoldable pub written : Answer Placing → List ℕ → List ℕ
-written (ok p) out = p .offsets ++ drop (length (p .offsets)) out
-written (refused x p) out = out
+unfoldable pub bufferAfter : Answer Placing → List ℕ → List ℕ
+bufferAfter (ok p) out = p .offsets ++ drop (length (p .offsets)) out
+bufferAfter (refused x p) out = out
 
 unfoldable pub offsetsAfter : Memory → List ℕ → ℕ → List ℕ → List ℕ → List ℕ
-offsetsAfter m t n ws out = written (placing m t n ws (length out)) out
+offsetsAfter m t n ws out = bufferAfter (placing m t n ws (length out)) out
 
 -- `contains_borrow_resource`: "yes when any parameter reference reaches a Borrow"
-unfoldable pub someBorrow : List Info → Bool
-someBorrow [] = false
-someBorrow (i ∷ is′) = i .borrow || someBorrow is′
+unfoldable pub reachAll : List Info → Reach
+reachAll [] = noReach
+reachAll (i ∷ is′) = joinReach (i .reach) (reachAll is′)
 
 unfoldable pub borrowAnswer : List ℕ → ℕ → List ℕ → Answer Bool
-borrowAnswer t n ws = ask t n false false ws (λ is′. ok (someBorrow is′))
+borrowAnswer t n ws = ask t n false false ws (λ is′. ok (reachAll is′ .borrow))

@@ -5,57 +5,28 @@ use mathlib.Core.Option.{Option, none, some}
 use Prim.Native.Nat.{ℕ, _/_, _%_, _^_}
 use lib.Dec.{leb, eqb}
 use lib.ListN.{getD}
-use Rattle.canon.specs.Types.{
-  Ty,
-  scalar,
-  string,
-  recordOf,
-  variantOf,
-  listOf,
-  tupleOf,
-  mapOf,
-  flagsOf,
-  enumOf,
-  optionOf,
-  resultOf,
-  fixedOf,
-  count,
-}
-use Rattle.canon.specs.Layout.{
-  Memory,
-  mem32,
-  mem64,
-  Both,
-  both,
-  within,
-  Layout,
-  starts,
-  recordLayout,
-  discriminant,
-  payloadOffset,
-  layout,
-  payload,
-  payloads,
-}
-use Rattle.canon.specs.Flat.{Core, flatten, flatCount}
-use Rattle.canon.specs.Borrow.{borrows}
-use Rattle.canon.specs.Pack.{pack, unpack}
+use Rattle.canon.specs.Types.{Ty, scalar, string, recordOf, variantOf, listOf, tupleOf, mapOf, flagsOf, enumOf, optionOf, resultOf, fixedOf}
+use Rattle.canon.specs.Types.{Core, count, kRecord, kVariant, kList, kTuple, kMap, kFlags, kEnum, kOption, kResult, kFixed, kindWord}
+use Rattle.canon.specs.Layout.{Memory, Both, both, within, Layout, layout, payload, payloads, starts, recordLayout, discriminant, payloadOffset}
+use Rattle.canon.specs.Flat.{flatten, flatCount}
+use Rattle.canon.specs.Reach.{Reach, reach, reachWord, wordReach, goodReach}
+use Rattle.canon.specs.Pack.{Packed, pack, unpack}
 use Rattle.canon.specs.Answer.{lift}
 
 -- word 0; 0 for a type that no definition spells
-abbrev pub kindWord : Ty → ℕ
-kindWord (scalar s) = 0
-kindWord string = 0
-kindWord (recordOf ts) = 1
-kindWord (variantOf cs) = 2
-kindWord (listOf t) = 3
-kindWord (tupleOf ts) = 4
-kindWord (mapOf k v) = 5
-kindWord (flagsOf n) = 6
-kindWord (enumOf n) = 7
-kindWord (optionOf t) = 8
-kindWord (resultOf ok err) = 9
-kindWord (fixedOf t n) = 10
+abbrev pub rowKind : Ty → ℕ
+rowKind (scalar s) = 0
+rowKind string = 0
+rowKind (recordOf ts) = kindWord kRecord
+rowKind (variantOf cs) = kindWord kVariant
+rowKind (listOf t) = kindWord kList
+rowKind (tupleOf ts) = kindWord kTuple
+rowKind (mapOf k v) = kindWord kMap
+rowKind (flagsOf n) = kindWord kFlags
+rowKind (enumOf n) = kindWord kEnum
+rowKind (optionOf t) = kindWord kOption
+rowKind (resultOf ok err) = kindWord kResult
+rowKind (fixedOf t n) = kindWord kFixed
 
 -- word 5: "flat count, 255 for none"
 abbrev pub countWord : Option ℕ → ℕ
@@ -69,6 +40,13 @@ countOf w = cond (eqb w 255) none (some w)
 abbrev pub flatWord : Option ℕ → List Core → ℕ
 flatWord none l = 0
 flatWord (some n) l = pack l
+
+-- the count and one memory's word
+abbrev pub rowFlat : Option ℕ → List Core → Packed
+rowFlat c l = record { number = countWord c; types = flatWord c l }
+
+abbrev pub typeFlat : Memory → Ty → Packed
+typeFlat m t = rowFlat (flatCount t) (flatten m t)
 
 -- words 8 to 14, in one memory: "discriminant size, 0 if the kind has none", "payload offset (variant, enum, option, result) or
 -- value offset (map)", "a map's entry size32, align32, size64, align64, otherwise 0"
@@ -104,29 +82,29 @@ inner m (optionOf t) = casesInner 2 (layout m t ∷ [])
 inner m (resultOf ok err) = casesInner 2 (payload m ok ++ payload m err)
 inner m (fixedOf t n) = noInner
 
--- word 15
-abbrev pub borrowWord : Bool → ℕ
-borrowWord b = cond b 1 0
+-- the sixteen words in their order
+abbrev pub rowWords : ℕ → Both Layout → Both Packed → Both Inner → Reach → List ℕ
+rowWords kind layouts flats inners reached =
+    kind
+    ∷ layouts .in32 .size
+    ∷ layouts .in32 .align
+    ∷ layouts .in64 .size
+    ∷ layouts .in64 .align
+    ∷ flats .in32 .number
+    ∷ flats .in32 .types
+    ∷ flats .in64 .types
+    ∷ inners .in32 .disc
+    ∷ inners .in32 .offset
+    ∷ inners .in64 .offset
+    ∷ inners .in32 .entry .size
+    ∷ inners .in32 .entry .align
+    ∷ inners .in64 .entry .size
+    ∷ inners .in64 .entry .align
+    ∷ reachWord reached
+    ∷ []
 
 unfoldable pub rowOf : Ty → List ℕ
-rowOf t =
-    kindWord t
-    ∷ layout mem32 t .size
-    ∷ layout mem32 t .align
-    ∷ layout mem64 t .size
-    ∷ layout mem64 t .align
-    ∷ countWord (flatCount t)
-    ∷ flatWord (flatCount t) (flatten mem32 t)
-    ∷ flatWord (flatCount t) (flatten mem64 t)
-    ∷ inner mem32 t .disc
-    ∷ inner mem32 t .offset
-    ∷ inner mem64 t .offset
-    ∷ inner mem32 t .entry .size
-    ∷ inner mem32 t .entry .align
-    ∷ inner mem64 t .entry .size
-    ∷ inner mem64 t .entry .align
-    ∷ borrowWord (borrows t)
-    ∷ []
+rowOf t = rowWords (rowKind t) (both (λ m. layout m t)) (both (λ m. typeFlat m t)) (both (λ m. inner m t)) (reach t)
 
 -- types.rs, the five numbers of `CanonicalAbiInfo`
 pub record Abi : Type 0 where
@@ -140,10 +118,10 @@ abiOf t = record { layouts = both (λ m. layout m t); flats = flatCount t }
 pub record Info : Type 0 where
   pub abi : Abi
   pub flatWords : Both ℕ
-  pub borrow : Bool
+  pub reach : Reach
 
 abbrev pub infoOf : Ty → Info
-infoOf t = record { abi = abiOf t; flatWords = both (λ m. flatWord (flatCount t) (flatten m t)); borrow = borrows t }
+infoOf t = record { abi = abiOf t; flatWords = both (λ m. typeFlat m t .types); reach = reach t }
 
 abbrev pub word : List ℕ → ℕ → ℕ
 word r k = getD r k 0
@@ -156,7 +134,7 @@ rowAbi r =
     }
 
 abbrev pub rowInfo : List ℕ → Info
-rowInfo r = record { abi = rowAbi r; flatWords = record { in32 = word r 6; in64 = word r 7 }; borrow = eqb (word r 15) 1 }
+rowInfo r = record { abi = rowAbi r; flatWords = record { in32 = word r 6; in64 = word r 7 }; reach = wordReach (word r 15) }
 
 -- the flat list in one memory, none if the count is none
 unfoldable pub flatOf : Memory → Info → Option (List Core)
@@ -202,4 +180,4 @@ isGood r =
     && (unusedZero (rowAbi r .flats) (word r 6)
     && (unusedZero (rowAbi r .flats) (word r 7)
     && (isDiscriminant (word r 8)
-    && leb (word r 15) 1)))))
+    && goodReach (word r 15))))))

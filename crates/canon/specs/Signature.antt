@@ -1,12 +1,13 @@
 -- Core signatures (01, "Questions put to a table"; signature.rs).
-use mathlib.Core.Bool.{Bool, true, false, cond}
+use mathlib.Core.Bool.{Bool, true, false, cond, not}
 use mathlib.Core.List.{List, [], _∷_, _++_}
 use mathlib.Core.Option.{Option, none, some}
 use Prim.Native.Nat.{ℕ}
-use lib.Dec.{leb, ltb}
+use lib.Dec.{leb, ltb, eqb}
 use lib.ListN.{length}
+use Rattle.canon.specs.Types.{Core}
 use Rattle.canon.specs.Layout.{Memory}
-use Rattle.canon.specs.Flat.{Core, ptrType}
+use Rattle.canon.specs.Flat.{ptrType}
 use Rattle.canon.specs.Row.{Info, flatOf}
 use Rattle.canon.specs.Answer.{Answer, ok, lift2}
 use Rattle.canon.specs.Question.{ask, askTwo}
@@ -62,24 +63,24 @@ orPointer m (listed l) = l
 orPointer m inMemory = ptrType m ∷ []
 
 -- "parameters are the lower side's, maximum 16, or 4 if lower is async; results are the lift side's parameter types, maximum 16"
-unfoldable pub startOf : Side → List Info → Side → List Info → Signature
+unfoldable pub startOf : Side → Option (List Core) → Side → Option (List Core) → Signature
 startOf lower params lift results =
     record {
-      params = orPointer (lower .memory) (atMost (paramsMax (lower .async)) (flatAll (lower .memory) params));
-      results = orPointer (lift .memory) (atMost 16 (flatAll (lift .memory) results));
+      params = orPointer (lower .memory) (atMost (paramsMax (lower .async)) params);
+      results = orPointer (lift .memory) (atMost 16 results);
     }
 
 -- "start has lower then lift"
 unfoldable pub asyncStartAnswer : List ℕ → ℕ → Side → List ℕ → Side → List ℕ → Answer Signature
-asyncStartAnswer t n lower vs lift ws = askTwo t n vs ws (λ params results. ok (startOf lower params lift results))
+asyncStartAnswer t n lower vs lift ws =
+    askTwo t n vs ws (λ is′ js. ok (startOf lower (flatAll (lower .memory) is′) lift (flatAll (lift .memory) js)))
 
 -- whether lower's results go behind a pointer: "lower is async and its result list is not empty, or is sync and flattens at maximum 1
 -- to 'memory'"
-unfoldable pub behindPointer : Bool → List Info → Flattened → Bool
-behindPointer true [] f = false
-behindPointer true (i ∷ is′) f = true
-behindPointer false is′ (listed l) = false
-behindPointer false is′ inMemory = true
+unfoldable pub behindPointer : Bool → Bool → Flattened → Bool
+behindPointer true isEmpty f = not isEmpty
+behindPointer false isEmpty (listed l) = false
+behindPointer false isEmpty inMemory = true
 
 -- lower's flat list; a list behind a pointer is not asked for
 abbrev pub listOrNone : Flattened → List Core
@@ -91,13 +92,14 @@ unfoldable pub returned : Memory → Bool → List Core → List Core → Signat
 returned lift true params results = record { params = params ++ ptrType lift ∷ []; results = [] }
 returned lift false params results = record { params = params; results = results }
 
--- "parameters are the lifting of the lift results, or one lift pointer"
-unfoldable pub returnOf : Side → List Info → Side → List Info → Signature
-returnOf lift is′ lower js =
-    returned (lift .memory) (behindPointer (lower .async) js (atMost 1 (flatAll (lower .memory) js)))
-    (orPointer (lift .memory) (atMost (liftingMax (lift .async)) (flatAll (lift .memory) is′)))
-    (listOrNone (atMost 1 (flatAll (lower .memory) js)))
+-- "parameters are the lifting of the lift results, or one lift pointer"; isEmpty is whether lower has no references
+unfoldable pub returnOf : Side → Option (List Core) → Side → Option (List Core) → Bool → Signature
+returnOf lift params lower results isEmpty =
+    returned (lift .memory) (behindPointer (lower .async) isEmpty (atMost 1 results))
+    (orPointer (lift .memory) (atMost (liftingMax (lift .async)) params))
+    (listOrNone (atMost 1 results))
 
 -- "return lift then lower"
 unfoldable pub asyncReturnAnswer : List ℕ → ℕ → Side → List ℕ → Side → List ℕ → Answer Signature
-asyncReturnAnswer t n lift vs lower ws = askTwo t n vs ws (λ is′ js. ok (returnOf lift is′ lower js))
+asyncReturnAnswer t n lift vs lower ws =
+    askTwo t n vs ws (λ is′ js. ok (returnOf lift (flatAll (lift .memory) is′) lower (flatAll (lower .memory) js) (eqb (length ws) 0)))

@@ -1,71 +1,37 @@
 -- Questions: what is read has the standard's alignments; a placement question is refused as too large exactly when its memory admits no
 -- placement; and on a table that a build wrote every question answers for the types themselves.
 use mathlib.Core.Path.{_≡_, refl, sym, ap, _∙_}
-use mathlib.Core.Logic.{⊎-elim, _↔_}
-use mathlib.Core.Bool.{Bool, true, false, cond, _||_}
+use mathlib.Core.Logic.{_↔_}
+use mathlib.Core.Bool.{Bool, true, false, cond}
 use mathlib.Core.List.{List, [], _∷_, _++_, map}
 use mathlib.Core.Option.{Option, none, some}
 use Prim.Native.Nat.{ℕ, suc, _*_, _-_, _≤_}
 use native.Mathlib.Omega.{arith}
-use lib.Dec.{leb, ltb, eqb}
+use lib.Dec.{leb, ltb}
 use lib.ListN.{length, take, getElem?}
-use borrow.Author.Tests.{eqb-true, le-ltb}
+use borrow.Author.Tests.{le-ltb}
 use Rattle.canon.specs.Answer.{Leaf, is, no as refuses, Answer, ok, refused, atPosition, then, unless, lift2, lift, badRef, tooLarge}
-use Rattle.canon.specs.Round.{Alignment, by1, by2, by4, by8}
-use Rattle.canon.specs.Types.{Ty}
+use Rattle.canon.specs.Types.{Ty, Core, plain}
 use Rattle.canon.specs.Layout.{Memory, mem32, mem64, Layout, within, layout}
-use Rattle.canon.specs.Flat.{Core, flatten, flatCount}
-use Rattle.canon.specs.Borrow.{borrows}
-use Rattle.canon.specs.Placement.{NoPlacement}
-use Rattle.canon.specs.Row.{Abi, Info, infoOf, rowAbi, rowInfo, rowOf, word, isAlignment, goodLayout, goodAbi, isGood}
+use Rattle.canon.specs.Flat.{flatten, flatCount}
+use Rattle.canon.specs.Reach.{Reach, noReach, joinReach, reach}
+use Rattle.canon.specs.Row.{Info, infoOf, rowAbi, rowInfo, rowOf, word, goodAbi, isGood}
 use Rattle.canon.specs.Table.{capacity, rowAt}
-use Rattle.canon.specs.Description.{plain, reference, named, built, tableAfter}
-use Rattle.canon.specs.Question.{
-  plainInfo,
-  readRow,
-  read,
-  infos,
-  tooMany,
-  noTable,
-  ask,
-  askTwo,
-  typeAnswer,
-  layoutsIn,
-  Placing,
-  placed,
-  placing,
-  someBorrow,
-}
+use Rattle.canon.specs.Description.{reference, built, tableAfter}
+use Rattle.canon.specs.Question.{plainInfo, readRow, read, infos, tooMany, noTable, ask}
+use Rattle.canon.specs.Question.{askTwo, typeAnswer, layoutsIn, Placing, placed, placing, reachAll}
 use Rattle.canon.specs.Signature.{flatAll}
-use Rattle.canon.proofs.Tests.{impossible, both-true, either-true}
+use Rattle.canon.proofs.Tests.{impossible, both-true}
 use Rattle.canon.proofs.Tightest.{Aligned}
 use Rattle.canon.proofs.Alignments.{layout-aligned}
 use Rattle.canon.proofs.Refusals.{Tightest, placed-six, placed-tightest}
 use Rattle.canon.proofs.Cells.{room-fits, length-putRows}
 use Rattle.canon.proofs.Rows.{flat-back}
 use Rattle.canon.proofs.Built.{typeInfo, built-sound, reads-built}
+use Rattle.canon.proofs.Rounding.{Alignment, abi-tested}
+use Rattle.canon.specs.Placement.{NoPlacement}
 
 -- What is read is aligned
-
-is-one : {b : ℕ} (a : ℕ) → Alignment b → eqb a b ≡ true → Alignment a
-is-one {b} a w h = rw (eqb-true a b h) w
-
-pub alignment-tested : (a : ℕ) → isAlignment a ≡ true → Alignment a
-unfolding isAlignment
-alignment-tested a h =
-    ⊎-elim (is-one a by1)
-    (λ q. ⊎-elim (is-one a by2)
-    (λ r. ⊎-elim (is-one a by4) (is-one a by8) (either-true (eqb a 4) (eqb a 8) .0 r)) (either-true (eqb a 2) _ .0 q))
-    (either-true (eqb a 1) _ .0 h)
-
-layout-tested : (f : Layout) → goodLayout f ≡ true → Alignment (f .align)
-unfolding goodLayout
-layout-tested f h = alignment-tested (f .align) (both-true (isAlignment (f .align)) _ h .0)
-
-pub abi-tested : (m : Memory) (a : Abi) → goodAbi a ≡ true → Alignment (within m (a .layouts) .align)
-unfolding goodAbi
-abi-tested mem32 a h = layout-tested (a .layouts .in32) (both-true (goodLayout (a .layouts .in32)) _ h .0)
-abi-tested mem64 a h = layout-tested (a .layouts .in64) (both-true _ _ (both-true (goodLayout (a .layouts .in32)) _ h .1) .0)
 
 -- what holds of every type's info and of every good row's info holds of what is read
 pub read-has :
@@ -96,7 +62,7 @@ row-tested r good =
 
 pub read-aligned : (m : Memory) (t : List ℕ) (n w : ℕ) (i : Info) → read t n w ≡ is i → Alignment (within m (i .abi .layouts) .align)
 read-aligned m =
-    read-has (λ i. Alignment (within m (i .abi .layouts) .align)) (info-aligned m) (λ r good. abi-tested m (rowAbi r) (row-tested r good))
+    read-has (λ i. Alignment (within m (i .abi .layouts) .align)) (info-aligned m) (λ r good. abi-tested (rowAbi r) (row-tested r good) m)
 
 -- the infos of a list, one after another
 first-ok :
@@ -159,6 +125,11 @@ table-there ws t n le =
       le-ltb (length t) (16 * n) (omega (arith, s .fits, f .1)),
     )
 
+-- the types that a question's references name
+unfoldable pub named : List Ty → List ℕ → Option (List Ty)
+named ts [] = some []
+named ts (w ∷ ws) = lift2 _∷_ (reference ts w) (named ts ws)
+
 infos-named : (ts : List Ty) (p : ℕ) (ws : List ℕ) (us : List Ty) → named ts ws ≡ some us → infos (typeInfo ts) p ws ≡ ok (map infoOf us)
 unfolding named infos then atPosition plainInfo
 infos-named ts p [] us e = let q : [] ≡ us = cc in rw (← q)
@@ -219,11 +190,11 @@ unfolding flatAll
 flats-typed m [] = refl
 flats-typed m (u ∷ us) = rw (flat-back m u, flats-typed m us)
 
-abbrev pub borrowTypes : List Ty → Bool
-borrowTypes [] = false
-borrowTypes (u ∷ us) = borrows u || borrowTypes us
+abbrev pub reachTypes : List Ty → Reach
+reachTypes [] = noReach
+reachTypes (u ∷ us) = joinReach (reach u) (reachTypes us)
 
-pub borrows-typed : (us : List Ty) → someBorrow (map infoOf us) ≡ borrowTypes us
-unfolding someBorrow
-borrows-typed [] = refl
-borrows-typed (u ∷ us) = ap (λ (b : Bool). borrows u || b) (borrows-typed us)
+pub reaches-typed : (us : List Ty) → reachAll (map infoOf us) ≡ reachTypes us
+unfolding reachAll
+reaches-typed [] = refl
+reaches-typed (u ∷ us) = ap (joinReach (reach u)) (reaches-typed us)
