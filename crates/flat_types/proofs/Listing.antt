@@ -1,45 +1,41 @@
 -- What each step answers, of the counts and words of one list or two.
 use mathlib.Core.Path.{_≡_, refl, sym, ap, _∙_}
-use mathlib.Core.Bool.{true, false, _&&_}
+use mathlib.Core.Bool.{Bool, true, false, cond, _&&_}
 use mathlib.Core.List.{List, [], _∷_, _++_}
 use mathlib.Core.Option.{Option, none, some}
-use Prim.Native.Nat.{ℕ, zero, suc, _+_, _*_, _/_, _%_, _^_, _≤_, _<_, max}
-use native.Mathlib.Decide.{decLe}
+use Prim.Native.Nat.{ℕ, zero, suc, _+_, _*_, _/_, _^_, _≤_, _<_, max}
+use native.Mathlib.Nat.{div-one, div-add-mod'}
 use native.Mathlib.Omega.{arith}
-use lib.Dec.{eqb}
+use lib.Bits.{bitOr, or-add-and, and-le-r, or-zero-l, or-shr}
+use lib.Dec.{leb, eqb}
 use lib.ListN.{length, length-append}
-use borrow.Author.Tests.{le-leb, lt-leb}
-use Rattle.canon.specs.Answer.{lift, lift2}
-use Rattle.canon.specs.Layout.{Memory, mem32, mem64}
-use Rattle.canon.specs.Flat.{Core, I32, ptrType, joinLists, copies, flagsFlat}
-use Rattle.canon.specs.Pack.{Packed, code, decode, pack, unpack}
+use borrow.Author.Tests.{le-leb, lt-leb, leb-true, ne-eqb, eqb-true}
+use Rattle.canon.specs.Answer.{lift}
+use Rattle.canon.specs.Layout.{Memory, mem32, mem64, both, within}
+use Rattle.canon.specs.Flat.{copies, flagsFlat}
+use Rattle.canon.specs.Pack.{Packed, pack, unpack}
 use Rattle.canon.specs.Row.{used, countOf, goodCount, unusedZero}
-use Rattle.canon.proofs.Packing.{unpack-pack}
-use Rattle.canon.proofs.FlatFolds.{length-join, length-copies}
-use Rattle.flat_types.specs.Lists.{unpacked, noList, packedTo, packed, flatIn, Holds, goodFlat}
+use Rattle.canon.specs.Types.{Core, I32}
+use Rattle.canon.proofs.Packing.{pack-lt, pack-append, unpack-pack, length-unpack}
+use Rattle.canon.proofs.FlatFolds.{length-copies, Counted}
+use Rattle.flat_types.specs.Lists.{unpacked, noList, packedTo, packed, halves, whole, Holds, goodFlat}
+use Rattle.flat_types.specs.Places.{appendWord, appendTo}
 use Rattle.flat_types.specs.declared.both.FlatTypes.{FlatTypes}
-use Rattle.flat_types.proofs.Masks.{length-unpack}
+use Rattle.flat_types.proofs.Masks.{pow4, pack-unpack, pack-fits, append-word}
+use Rattle.flat_types.proofs.Halves.{half}
 
--- in one memory and in the other
+-- both memories' lists, from one law over the memory
 pub holds :
-    {n v w : ℕ} (lists : Memory → Option (List Core)) →
-    record { number = n; types = v } ≡ packed (lists mem32) →
-    record { number = n; types = w } ≡ packed (lists mem64) →
-    Holds (record { count = n; memory32 = v; memory64 = w }) lists
-holds lists p q mem32 = p
-holds lists p q mem64 = q
+    {n v : ℕ} (lists : Memory → Option (List Core)) (w : Memory → ℕ) →
+    v ≡ whole (both w) →
+    w mem32 < 2 ^ 32 →
+    ((m : Memory) → record { number = n; types = w m } ≡ packed (lists m)) →
+    Holds (record { count = n; words = v }) lists
+holds {n} lists w e h law m = ap (λ (x : ℕ). record { number = n; types = x }) (ap (λ (x : ℕ). within m (halves x)) e ∙ half w h m) ∙ law m
 
--- from one law over the memory
-pub holds-by :
-    {n v w : ℕ} (lists : Memory → Option (List Core)) (word : Memory → ℕ) →
-    ((m : Memory) (x : ℕ) → x ≡ word m → record { number = n; types = x } ≡ packed (lists m)) →
-    v ≡ word mem32 →
-    w ≡ word mem64 →
-    Holds (record { count = n; memory32 = v; memory64 = w }) lists
-holds-by lists word law p q = holds lists (law mem32 _ p) (law mem64 _ q)
-
-pub holds-none : (lists : Memory → Option (List Core)) → ((m : Memory) → noList ≡ packed (lists m)) → Holds (record { count = 255; memory32 = 0; memory64 = 0 }) lists
-holds-none lists p = holds lists (p mem32) (p mem64)
+pub holds-none : (lists : Memory → Option (List Core)) → ((m : Memory) → noList ≡ packed (lists m)) → Holds (record { count = 255; words = 0 }) lists
+holds-none lists p mem32 = p mem32
+holds-none lists p mem64 = p mem64
 
 abbrev types : Packed → List Core
 types p = unpack (p .number) (p .types)
@@ -79,40 +75,23 @@ module _ (p : Packed) (g : List Core → List Core) where
   pub one-is : (max n w : ℕ) → p .number ≤ 16 → length (g (types p)) ≡ n → n ≤ max → w ≡ pack (g (types p)) → record { number = n; types = w } ≡ packedTo max (lift g (unpacked p))
   one-is max n w h e b f = rw (list-some p h) (answer max n w (g (types p)) e b f)
 
-module _ (p q : Packed) (g : List Core → List Core → List Core) where
-  two-is : (n w : ℕ) → p .number ≤ 16 → q .number ≤ 16 → length (g (types p) (types q)) ≡ n → n ≤ 16 → w ≡ pack (g (types p) (types q)) → record { number = n; types = w } ≡ packed (lift2 g (unpacked p) (unpacked q))
-  two-is n w hp hq e b f = rw (list-some p hp, list-some q hq) (answer 16 n w (g (types p) (types q)) e b f)
-
-  -- none where a part is none, or where the whole is too long
-  two-none : (p .number ≤ 16 → q .number ≤ 16 → 16 < length (g (types p) (types q))) → noList ≡ packed (lift2 g (unpacked p) (unpacked q))
-  unfolding packedTo
-  two-none long =
-      elim (decLe (p .number) 16) [
-        | no i ↦ rw (list-none p (omega arith))
-        | yes i ↦ elim (decLe (q .number) 16) [
-          | no j ↦ rw (list-some p i, list-none q (omega arith))
-          | yes j ↦ rw (list-some p i, list-some q j) (sym (packed-none 16 (g (types p) (types q)) (long i j)))
-        ]
-      ]
-
-module _ (p q : Packed) where
-  append-length : length (types p ++ types q) ≡ p .number + q .number
-  append-length = omega (arith, length-append (types p) (types q), length-types p, length-types q)
-
-  join-length : length (joinLists (types p) (types q)) ≡ max (p .number) (q .number)
-  join-length = rw (length-join (types p) (types q), length-types p, length-types q)
-
-  pub append-none : 16 < p .number + q .number → noList ≡ packed (lift2 _++_ (unpacked p) (unpacked q))
-  append-none h = two-none p q _++_ (λ i j. omega (arith, append-length))
-
-  pub append-is : (w : ℕ) → p .number + q .number ≤ 16 → w ≡ pack (types p ++ types q) → record { number = p .number + q .number; types = w } ≡ packed (lift2 _++_ (unpacked p) (unpacked q))
-  append-is w h e = two-is p q _++_ (p .number + q .number) w (omega arith) (omega arith) append-length h e
-
-  pub join-none : 16 < max (p .number) (q .number) → noList ≡ packed (lift2 joinLists (unpacked p) (unpacked q))
-  join-none h = two-none p q joinLists (λ i j. omega arith)
-
-  pub join-is : (n w : ℕ) → n ≡ max (p .number) (q .number) → n ≤ 16 → w ≡ pack (joinLists (types p) (types q)) → record { number = n; types = w } ≡ packed (lift2 joinLists (unpacked p) (unpacked q))
-  join-is n w m h e = two-is p q joinLists n w (omega arith) (omega arith) (omega (arith, join-length)) h e
+-- one list behind another, as many as max
+pub append-lists :
+    (max : ℕ) (k l : List Core) →
+    max ≤ 32 →
+    appendTo max (record { number = length k; types = pack k }) (record { number = length l; types = pack l }) ≡ packedTo max (some (k ++ l))
+unfolding appendTo packedTo
+append-lists max k l h = rw (length-append k l) (go (leb (length k + length l) max) refl)
+  where
+    go :
+        (b : Bool) → leb (length k + length l) max ≡ b →
+        cond b (record { number = length k + length l; types = appendWord (length k) (pack k) (pack l) }) noList
+        ≡ cond b (record { number = length k + length l; types = pack (k ++ l) }) noList
+    go false e = refl
+    go true e =
+        let f = leb-true (length k + length l) max e in
+        ap (λ (x : ℕ). record { number = length k + length l; types = x })
+        (append-word (length k) (length l) (pack k) (pack l) (pack-lt k) (pack-lt l) (omega arith) ∙ sym (pack-append k l))
 
 module _ (p : Packed) (n : ℕ) where
   repeat-length : length (copies n (types p)) ≡ p .number * n
@@ -121,53 +100,15 @@ module _ (p : Packed) (n : ℕ) where
   pub repeat-none : p .number ≤ 16 → 16 < p .number * n → noList ≡ packed (lift (copies n) (unpacked p))
   repeat-none h k = rw (list-some p h) (sym (packed-none 16 (copies n (types p)) (omega (arith, repeat-length))))
 
+  pub repeat-fits : p .number * n ≤ 16 → pack (copies n (types p)) < 2 ^ 32
+  repeat-fits h = pack-fits (copies n (types p)) 16 (omega (arith, repeat-length))
+
   pub repeat-is : (w : ℕ) → p .number ≤ 16 → p .number * n ≤ 16 → w ≡ pack (copies n (types p)) → record { number = p .number * n; types = w } ≡ packed (lift (copies n) (unpacked p))
   repeat-is w h k e = one-is p (copies n) 16 (p .number * n) w h repeat-length k e
-
--- the words of a list, its unused bits cleared
-module _ (p : Packed) where
-  pub kept-none : 16 < p .number → noList ≡ packed (unpacked p)
-  unfolding packedTo
-  kept-none h = rw (list-none p h)
-
-  pub kept : (w : ℕ) → p .number ≤ 16 → w ≡ pack (types p) → record { number = p .number; types = w } ≡ packed (unpacked p)
-  kept w h e = rw (list-some p h) (answer 16 (p .number) w (types p) (length-types p) h e)
-
--- a pointer behind: 17 types at most
-module _ (p : Packed) (m : Memory) where
-  abbrev pointed : List Core → List Core
-  pointed l = l ++ ptrType m ∷ []
-
-  pub pointed-none : 16 < p .number → noList ≡ packedTo 17 (lift pointed (unpacked p))
-  pointed-none h = one-none p pointed 17 h
-
-  one-pointer : unpack 1 (code (ptrType m)) ≡ ptrType m ∷ []
-  unfolding unpack
-  one-pointer = go m
-    where
-      go : (m : Memory) → decode (code (ptrType m) % 4) ∷ [] ≡ ptrType m ∷ []
-      go mem32 = refl
-      go mem64 = refl
-
-  pub pointed-is : (w : ℕ) → p .number ≤ 16 → w ≡ pack (types p ++ unpack 1 (code (ptrType m))) → record { number = p .number + 1; types = w } ≡ packedTo 17 (lift pointed (unpacked p))
-  pointed-is w h e =
-      one-is p pointed 17 (p .number + 1) w h
-      (omega (arith, length-append (types p) (ptrType m ∷ []), length-types p))
-      (omega arith)
-      (rw one-pointer at e)
 
 pub flags-some : (n : ℕ) → (n ≡ 0 → ⊥) → flagsFlat n ≡ I32 ∷ []
 flags-some zero h = absurd (h refl)
 flags-some (suc n) h = refl
-
--- one I32 in front
-pub discriminated :
-    (f r : FlatTypes) →
-    Holds r (λ m. lift2 _++_ (flatIn m (record { count = 1; memory32 = 0; memory64 = 0 })) (flatIn m f)) →
-    Holds r (λ m. lift (λ l. I32 ∷ l) (flatIn m f))
-unfolding unpacked unpack
-discriminated f r h mem32 = h mem32
-discriminated f r h mem64 = h mem64
 
 -- The good form of a row's words
 
@@ -181,11 +122,64 @@ unfolding goodCount
 bad-count none h = absurd (omega arith)
 bad-count (some n) h = lt-leb n 16 h
 
+-- no bit of either is no bit of both
+either-zero : (a b : ℕ) → eqb (bitOr a b) 0 ≡ eqb a 0 && eqb b 0
+either-zero zero b = rw (or-zero-l b)
+either-zero (suc a) b = rw (ne-eqb (bitOr (suc a) b) 0 (λ e. omega (arith, or-add-and (suc a) b, and-le-r (suc a) b)), ne-eqb (suc a) 0 (λ e. omega arith))
+
 module _ (f : FlatTypes) (n : ℕ) (e : n ≡ used (countOf (f .count))) where
   pub bad-flat : 16 < n → false ≡ goodFlat f
   unfolding goodFlat
   bad-flat h = rw (bad-count (countOf (f .count)) (omega arith))
 
-  pub good-flat : n ≤ 16 → goodFlat f ≡ eqb (f .memory32 / 4 ^ n) 0 && eqb (f .memory64 / 4 ^ n) 0
+  pub good-flat : n ≤ 16 → eqb (bitOr (halves (f .words) .in32) (halves (f .words) .in64) / 4 ^ n) 0 ≡ goodFlat f
   unfolding goodFlat unusedZero
-  good-flat h = rw (good-count (countOf (f .count)) (omega arith), e)
+  good-flat h =
+      rw (good-count (countOf (f .count)) (omega arith), ← e, ← pow4 n, or-shr (halves (f .words) .in32) (halves (f .words) .in64) (n * 2))
+      (either-zero (halves (f .words) .in32 / 2 ^ (n * 2)) (halves (f .words) .in64 / 2 ^ (n * 2)))
+
+-- Words with unused bits zero are those of their list
+
+pub counted-unpack : (c w : ℕ) → goodCount (countOf c) ≡ true → Counted (countOf c) (unpack c w)
+unfolding goodCount
+counted-unpack c w = go (eqb c 255)
+  where
+    go : (b : Bool) → goodCount (cond b none (some c)) ≡ true → Counted (cond b none (some c)) (unpack c w)
+    go true g n e = let z : _≡_ {A = ℕ} 0 1 = cc in absurd (omega arith)
+    go false g n e = let f : c ≡ n = cc in omega (arith, leb-true c 16 g, length-unpack c w)
+
+module _ (p : Packed) (g : goodCount (countOf (p .number)) ≡ true) where
+  good-cases : (b : Bool) → eqb (p .number) 255 ≡ b → goodCount (cond b none (some (p .number))) ≡ true → unpacked p ≡ cond b none (some (types p))
+  unfolding goodCount
+  good-cases true e h = list-none p (omega (arith, eqb-true (p .number) 255 e))
+  good-cases false e h = list-some p (leb-true (p .number) 16 h)
+
+  -- the list, where there is a count
+  pub good-given : unpacked p ≡ lift (λ _. types p) (countOf (p .number))
+  good-given = good-cases (eqb (p .number) 255) refl g ∙ go (eqb (p .number) 255)
+    where
+      go : (b : Bool) → cond b none (some (types p)) ≡ lift (λ _. types p) (cond b none (some (p .number)))
+      go true = refl
+      go false = refl
+
+  pub good-list : unpacked p ≡ lift (λ n. unpack n (p .types)) (countOf (p .number))
+  good-list = good-cases (eqb (p .number) 255) refl g ∙ go (eqb (p .number) 255)
+    where
+      go : (b : Bool) → cond b none (some (types p)) ≡ lift (λ n. unpack n (p .types)) (cond b none (some (p .number)))
+      go true = refl
+      go false = refl
+
+  pub good-words : unusedZero (countOf (p .number)) (p .types) ≡ true → p ≡ packed (unpacked p)
+  unfolding unusedZero goodCount packedTo
+  good-words u = go (eqb (p .number) 255) refl g u
+    where
+      go : (b : Bool) → eqb (p .number) 255 ≡ b → goodCount (cond b none (some (p .number))) ≡ true → eqb (p .types / 4 ^ used (cond b none (some (p .number)))) 0 ≡ true → p ≡ packed (unpacked p)
+      go true e h u =
+          let n = eqb-true (p .number) 255 e in
+          let w : p .types ≡ 0 = sym (div-one (p .types)) ∙ eqb-true (p .types / 1) 0 u in
+          rw (list-none p (omega arith)) (λ i. record { number = n i; types = w i })
+      go false e h u =
+          let n = leb-true (p .number) 16 h in
+          let q : p .types / 4 ^ p .number ≡ 0 = eqb-true (p .types / 4 ^ p .number) 0 u in
+          let w : p .types ≡ pack (types p) = sym (pack-unpack (p .number) (p .types) ∙ omega (arith, rw q at (div-add-mod' (p .types) (4 ^ p .number)))) in
+          rw (list-some p n) (answer 16 (p .number) (p .types) (types p) (length-types p) n w)

@@ -1,16 +1,17 @@
 -- Masks and shifts of a word, in terms of the list that it packs.
-use mathlib.Core.Path.{_≡_, refl, sym, ap, _∙_}
-use mathlib.Core.List.{List, [], _∷_, _++_}
+use mathlib.Core.Path.{_≡_, refl, sym, _∙_}
+use mathlib.Core.List.{List}
 use Prim.Native.Nat.{ℕ, zero, suc, _+_, _-_, _*_, _/_, _%_, _^_, _≤_, _<_}
-use native.Mathlib.Nat.{pow-suc, suc-mul, mod-one, mod-lt, mod-le, zero-div, div-one, mul-comm, one-mul, div-div-eq-div-mul, pow-le-pow-right}
+use native.Mathlib.Nat.{pow-suc, suc-mul, mod-one, mod-lt, mod-le, mod-eq-of-lt, add-comm, one-mul, pow-le-pow-right, mul-lt-mul-of-pos-right}
 use native.Mathlib.Omega.{arith}
-use lib.Arith.{digits-div, mod-mul}
-use lib.Bits.{bitAnd, and-mask, and-le-r}
-use lib.ListN.{length, drop, length-append}
+use lib.Arith.{mod-mul}
+use lib.Bits.{bitAnd, bitOr, and-mask, and-le-r, or-shifted-r}
+use lib.ListN.{length}
 use lib.Pow.{pow-pos, pow-add, shl-exact}
-use Rattle.canon.specs.Flat.{Core}
-use Rattle.canon.specs.Pack.{code, decode, pack, unpack}
-use Rattle.canon.proofs.Packing.{code-lt, pack-lt, pack-append}
+use Rattle.canon.specs.Pack.{pack, unpack}
+use Rattle.canon.specs.Types.{Core}
+use Rattle.canon.proofs.Packing.{pack-lt, code-decode}
+use Rattle.flat_types.specs.Places.{appendWord}
 
 -- two bits for each type
 pub pow4 : (n : ℕ) → 2 ^ (n * 2) ≡ 4 ^ n
@@ -19,18 +20,6 @@ pow4 (suc n) = rw (suc-mul n 2, pow-add 2 (n * 2) 2, pow4 n, pow-suc 4 n)
 
 pow4-pos : (n : ℕ) → 0 < 4 ^ n
 pow4-pos n = rw (← pow4 n) (pow-pos (n * 2))
-
-code-decode : (x : ℕ) → x < 4 → code (decode x) ≡ x
-code-decode zero h = refl
-code-decode (suc zero) h = refl
-code-decode (suc (suc zero)) h = refl
-code-decode (suc (suc (suc zero))) h = refl
-code-decode (suc (suc (suc (suc x)))) h = absurd (omega arith)
-
-pub length-unpack : (n w : ℕ) → length (unpack n w) ≡ n
-unfolding unpack
-length-unpack zero w = refl
-length-unpack (suc n) w = ap suc (length-unpack n (w / 4))
 
 -- whatever lies above the first n types is dropped
 pub pack-unpack : (n w : ℕ) → pack (unpack n w) ≡ w % 4 ^ n
@@ -46,6 +35,10 @@ pack-unpack-le n w = rw (pack-unpack n w) (mod-le w (4 ^ n))
 pub pack-fits : (l : List Core) (n : ℕ) → length l ≤ n → pack l < 4 ^ n
 pack-fits l n h = let p : 4 ^ length l ≤ 4 ^ n = pow-le-pow-right (omega arith) h in omega (arith, pack-lt l)
 
+-- up to 16 places are a half
+pub places-fit : (n w : ℕ) → n ≤ 16 → w < 4 ^ n → w < 2 ^ 32
+places-fit n w h l = let p : 4 ^ n ≤ 4 ^ 16 = pow-le-pow-right (omega arith) h in omega arith
+
 -- the mask of the code
 bit : (n : ℕ) → n ≤ 16 → (1 * 2 ^ (n * 2)) % 2 ^ 64 ≡ 4 ^ n
 bit n h = shl-exact {a = 1} 1 (n * 2) 64 (omega arith) (omega arith) ∙ one-mul (2 ^ (n * 2)) ∙ pow4 n
@@ -53,36 +46,28 @@ bit n h = shl-exact {a = 1} 1 (n * 2) 64 (omega arith) (omega arith) ∙ one-mul
 pub bit-pos : (n : ℕ) → n ≤ 16 → 1 ≤ (1 * 2 ^ (n * 2)) % 2 ^ 64
 bit-pos n h = rw (bit n h) (pow4-pos n)
 
+pub mask-fits : (n : ℕ) → n ≤ 16 → (1 * 2 ^ (n * 2)) % 2 ^ 64 ≤ 2 ^ 32
+mask-fits n h = let p : 4 ^ n ≤ 4 ^ 16 = pow-le-pow-right (omega arith) h in rw (bit n h) p
+
 pub masked : (n w : ℕ) → n ≤ 16 → bitAnd w ((1 * 2 ^ (n * 2)) % 2 ^ 64 - 1) ≡ pack (unpack n w)
 masked n w h = rw (bit n h, ← pow4 n, and-mask w (n * 2), pow4 n, pack-unpack n w)
-
--- the shift of the code
-pub shifted : (n w : ℕ) → n ≤ 16 → w < 2 ^ 32 → (w * 2 ^ (n * 2)) % 2 ^ 64 ≡ w * 4 ^ n
-shifted n w h b = shl-exact {a = w} 32 (n * 2) 64 b (omega arith) ∙ ap (λ (x : ℕ). w * x) (pow4 n)
 
 -- the bits of a mask, moved up by one
 pub doubled-fits : (x y : ℕ) → y < 2 ^ 63 → bitAnd x y * 2 < 2 ^ 64
 doubled-fits x y h = omega (arith, and-le-r x y)
 
--- one list behind another: no bit is lost, and none is met twice
-module _ (m a n b : ℕ) (hm : m ≤ 16) (hn : n ≤ 16) where
-  pub appended : pack (unpack m a) + (pack (unpack n b) * 2 ^ (m * 2)) % 2 ^ 64 ≡ pack (unpack m a ++ unpack n b)
-  appended =
-      rw (shifted m (pack (unpack n b)) hm (pack-fits (unpack n b) 16 (omega (arith, length-unpack n b))))
-      (rw (length-unpack m a) at (sym (pack-append (unpack m a) (unpack n b))))
+-- one list behind the places of another: no bit is met twice
+pub behind : (n a b : ℕ) → a < 4 ^ n → bitOr a (b * 4 ^ n) ≡ a + b * 4 ^ n
+behind n a b h = rw (← pow4 n) (or-shifted-r b (n * 2) a (rw (← pow4 n) at h) ∙ add-comm (b * 2 ^ (n * 2)) a)
 
-  pub appended-fits : pack (unpack m a) + (pack (unpack n b) * 2 ^ (m * 2)) % 2 ^ 64 < 2 ^ 64
-  appended-fits =
-      rw appended
-      (pack-fits (unpack m a ++ unpack n b) 32 (omega (arith, length-append (unpack m a) (unpack n b), length-unpack m a, length-unpack n b)))
+-- and none is lost
+pub moved-fits : (m n k b : ℕ) → b < 4 ^ n → m + n ≤ k → b * 4 ^ m < 4 ^ k
+moved-fits m n k b hb h =
+    let p : 4 ^ (n + m) ≤ 4 ^ k = pow-le-pow-right (omega arith) (omega arith) in
+    let q : b * 4 ^ m < 4 ^ n * 4 ^ m = mul-lt-mul-of-pos-right hb (pow4-pos m) in
+    omega (arith, pow-add 4 n m)
 
--- and both fit one word, where there are at most 16 types
-pub both-fit : (m a n b : ℕ) → m + n ≤ 16 → pack (unpack m a ++ unpack n b) < 2 ^ 32
-both-fit m a n b h = pack-fits (unpack m a ++ unpack n b) 16 (omega (arith, length-append (unpack m a) (unpack n b), length-unpack m a, length-unpack n b))
-
-pub pack-drop : (n : ℕ) (l : List Core) → pack (drop n l) ≡ pack l / 4 ^ n
-unfolding pack
-pack-drop zero l = sym (div-one (pack l))
-pack-drop (suc n) [] = sym (zero-div (4 ^ suc n))
-pack-drop (suc n) (c ∷ cs) =
-    rw (pow-suc 4 n, mul-comm (4 ^ n) 4, ← (div-div-eq-div-mul (pack cs * 4 + code c) 4 (4 ^ n)), digits-div (pack cs) (code-lt c)) (pack-drop n cs)
+pub append-word : (m n a b : ℕ) → a < 4 ^ m → b < 4 ^ n → m + n ≤ 32 → appendWord m a b ≡ a + b * 4 ^ m
+append-word m n a b ha hb h =
+    let fits : b * 4 ^ m < 2 ^ 64 = moved-fits m n 32 b hb h in
+    rw (mod-eq-of-lt fits) (behind m a b ha)

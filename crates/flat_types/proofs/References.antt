@@ -9,7 +9,7 @@ use lib.ListN.{length, getElem?}
 use Rattle.canon.specs.Answer.{lift}
 use Rattle.canon.specs.Layout.{Memory}
 use Rattle.canon.specs.Flat.{flatten}
-use Rattle.canon.specs.Description.{plain}
+use Rattle.canon.specs.Types.{plain}
 use Rattle.flat_types.specs.Lists.{packed}
 
 -- P holds of each number below n
@@ -34,5 +34,9 @@ past [] i h = refl
 past (x ∷ l) zero h = absurd (omega arith)
 past (x ∷ l) (suc i) h = past l i (omega arith)
 
-pub two-bits : (x : ℕ) → bitAnd x 3 < 2 ^ 32
-two-bits x = omega (arith, and-le-r x 3)
+pub code-small : (x : ℕ) → bitAnd x 3 < 2 ^ 32
+code-small x = omega (arith, and-le-r x 3)
+
+-- a type's code in both memories
+pub code-fits : (x : ℕ) → bitAnd x 3 * 4294967297 < 2 ^ 64
+code-fits x = omega (arith, and-le-r x 3)

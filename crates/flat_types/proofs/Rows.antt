@@ -1,20 +1,17 @@
--- The steps over the words of a row's types (canon's words 5 to 7): what is built from the parts' words are the whole's words, in either memory.
+-- The steps over the words of a row's types (canon's words 5 to 7): what is built from the parts' words are the whole's words.
 use mathlib.Core.Path.{_≡_, refl, sym, ap, ap₂, _∙_}
 use mathlib.Core.Bool.{Bool, true, false, cond}
 use mathlib.Core.List.{List, [], _∷_, _++_, append-assoc, append-nil}
 use mathlib.Core.Option.{Option, none, some}
-use Prim.Native.Nat.{ℕ, zero, suc, _+_, _*_}
+use Prim.Native.Nat.{ℕ, zero, suc, _+_, _*_, max, min}
 use native.Mathlib.Omega.{arith}
 use lib.Dec.{leb}
 use lib.ListN.{length, length-append, getElem?}
-use borrow.Author.Tests.{leb-true, leb-false}
+use borrow.Author.Tests.{le-leb, lt-leb, leb-true, leb-false}
 use Rattle.canon.specs.Answer.{lift, lift2}
-use Rattle.canon.specs.Types.{Ty}
-use Rattle.canon.specs.Layout.{Memory, mem32, mem64}
+use Rattle.canon.specs.Types.{Ty, Core, I32, plain}
+use Rattle.canon.specs.Layout.{Memory, mem32, mem64, both, within}
 use Rattle.canon.specs.Flat.{
-  Core,
-  I32,
-  pairFlat,
   joinLists,
   joinAll,
   concat,
@@ -27,164 +24,206 @@ use Rattle.canon.specs.Flat.{
   timesFlat,
   sumFlat,
   greatestFlat,
-  variantCount,
   flagsCount,
   flatCount,
 }
 use Rattle.canon.specs.Pack.{Packed, pack}
 use Rattle.canon.specs.Placement.{Every}
-use Rattle.canon.specs.Description.{plain}
-use Rattle.canon.specs.Row.{countWord, flatWord}
+use Rattle.canon.specs.Row.{countWord, flatWord, rowFlat}
+use Rattle.canon.proofs.Packing.{pack-lt, pack-append}
 use Rattle.canon.proofs.FlatFolds.{
   length-copies,
   Counted,
+  counted-append,
   counted-join,
   AllCounted,
   nil,
   cons,
-  allCounted-append,
-  counted-concat,
-  counted-joinAll,
-  sumFlat-more,
-  concat-more,
-  greatestFlat-more,
-  joinAll-more,
+  sums,
+  sums-sum,
+  greats,
+  greats-greatest,
 }
-use Rattle.flat_types.specs.Lists.{unpacked, packedTo, packed, wordsIn}
+use Rattle.flat_types.specs.Lists.{unpacked, noList, packedTo, packed, whole, memoryWords}
+use Rattle.flat_types.specs.Places.{appendWord, oneI32, appendTo, joined}
+use Rattle.flat_types.proofs.Masks.{pack-fits}
+use Rattle.flat_types.proofs.Halves.{whole-halves, whole-same, half, append-both}
+use Rattle.flat_types.proofs.Joining.{joined-both}
 use Rattle.flat_types.proofs.Listing.{packed-some, packed-none, list-packed}
 
-abbrev pub rowWords : Option ℕ → List Core → Packed
-rowWords o l = record { number = countWord o; types = flatWord o l }
+-- with the words of both memories
+abbrev pub rowBoth : Option ℕ → (Memory → List Core) → Packed
+rowBoth o ls = record { number = countWord o; types = whole (both (λ m. flatWord o (ls m))) }
+
+-- a list for each memory
+abbrev pub pair : {A : Type 0} → A → A → Memory → A
+pair k l m = within m (record { in32 = k; in64 = l })
 
 -- the list, where there is a count
 abbrev given : Option ℕ → List Core → Option (List Core)
 given o l = lift (λ _. l) o
 
-words-given : (o : Option ℕ) (l : List Core) → Counted o l → rowWords o l ≡ packed (given o l)
+pub words-given : (o : Option ℕ) (l : List Core) → Counted o l → rowFlat o l ≡ packed (given o l)
 unfolding packedTo
 words-given none l c = refl
 words-given (some n) l c = let e = c n refl in sym (packed-some 16 l (omega arith) ∙ ap (λ (x : ℕ). record { number = x; types = pack l }) (e .0))
 
-list-words : (o : Option ℕ) (l : List Core) → Counted o l → unpacked (rowWords o l) ≡ given o l
+list-words : (o : Option ℕ) (l : List Core) → Counted o l → unpacked (rowFlat o l) ≡ given o l
 unfolding unpacked
 list-words none l c = refl
 list-words (some n) l c = let e = c n refl in ap unpacked (words-given (some n) l c) ∙ list-packed l (omega arith)
 
 -- a sum or product above 16 is none
-capped-words : (n : ℕ) (l : List Core) → length l ≡ n → packed (some l) ≡ rowWords (capped n) l
+capped-words : (n : ℕ) (l : List Core) → length l ≡ n → packed (some l) ≡ rowFlat (capped n) l
 capped-words n l e = go (leb n 16) refl
   where
-    go : (b : Bool) → leb n 16 ≡ b → packed (some l) ≡ rowWords (cond b (some n) none) l
+    go : (b : Bool) → leb n 16 ≡ b → packed (some l) ≡ rowFlat (cond b (some n) none) l
     go true h = packed-some 16 l (omega (arith, leb-true n 16 h)) ∙ ap (λ (x : ℕ). record { number = x; types = pack l }) e
     go false h = packed-none 16 l (omega (arith, leb-false n 16 h))
 
--- One step of each kind
+-- One step in one memory
 
 module _ (a b : Option ℕ) (k l : List Core) (p : Counted a k) (q : Counted b l) where
-  pub append-words : packed (lift2 _++_ (unpacked (rowWords a k)) (unpacked (rowWords b l))) ≡ rowWords (addFlat a b) (k ++ l)
+  pub append-words : packed (lift2 _++_ (unpacked (rowFlat a k)) (unpacked (rowFlat b l))) ≡ rowFlat (addFlat a b) (k ++ l)
   unfolding addFlat packedTo
   append-words = rw (list-words a k p, list-words b l q) (go a b p q)
     where
-      go : (a b : Option ℕ) → Counted a k → Counted b l → packed (lift2 _++_ (given a k) (given b l)) ≡ rowWords (addFlat a b) (k ++ l)
+      go : (a b : Option ℕ) → Counted a k → Counted b l → packed (lift2 _++_ (given a k) (given b l)) ≡ rowFlat (addFlat a b) (k ++ l)
       go none b p q = refl
       go (some i) none p q = refl
       go (some i) (some j) p q = capped-words (i + j) (k ++ l) (omega (arith, length-append k l, p i refl, q j refl))
 
-  pub join-words : packed (lift2 joinLists (unpacked (rowWords a k)) (unpacked (rowWords b l))) ≡ rowWords (maxFlat a b) (joinLists k l)
+  pub join-words : packed (lift2 joinLists (unpacked (rowFlat a k)) (unpacked (rowFlat b l))) ≡ rowFlat (maxFlat a b) (joinLists k l)
   unfolding maxFlat packedTo
   join-words = rw (list-words a k p, list-words b l q) (go a b p q)
     where
-      go : (a b : Option ℕ) → Counted a k → Counted b l → packed (lift2 joinLists (given a k) (given b l)) ≡ rowWords (maxFlat a b) (joinLists k l)
+      go : (a b : Option ℕ) → Counted a k → Counted b l → packed (lift2 joinLists (given a k) (given b l)) ≡ rowFlat (maxFlat a b) (joinLists k l)
       go none b p q = refl
       go (some i) none p q = refl
       go (some i) (some j) p q = sym (words-given (maxFlat (some i) (some j)) (joinLists k l) (counted-join (some i) (some j) k l p q))
 
 module _ (a : Option ℕ) (l : List Core) (p : Counted a l) where
-  pub discriminant-words : packed (lift (λ l. I32 ∷ l) (unpacked (rowWords a l))) ≡ rowWords (addFlat (some 1) a) (I32 ∷ l)
-  unfolding addFlat packedTo
-  discriminant-words = rw (list-words a l p) (go a p)
-    where
-      go : (a : Option ℕ) → Counted a l → packed (lift (λ l. I32 ∷ l) (given a l)) ≡ rowWords (addFlat (some 1) a) (I32 ∷ l)
-      go none p = refl
-      go (some i) p = capped-words (1 + i) (I32 ∷ l) (omega (arith, p i refl))
-
-  pub repeat-words : (n : ℕ) → packed (lift (copies n) (unpacked (rowWords a l))) ≡ rowWords (timesFlat a n) (copies n l)
+  pub repeat-words : (n : ℕ) → packed (lift (copies n) (unpacked (rowFlat a l))) ≡ rowFlat (timesFlat a n) (copies n l)
   unfolding timesFlat packedTo
   repeat-words n = rw (list-words a l p) (go a p)
     where
-      go : (a : Option ℕ) → Counted a l → packed (lift (copies n) (given a l)) ≡ rowWords (timesFlat a n) (copies n l)
+      go : (a : Option ℕ) → Counted a l → packed (lift (copies n) (given a l)) ≡ rowFlat (timesFlat a n) (copies n l)
       go none p = refl
       go (some i) p = capped-words (i * n) (copies n l) (length-copies n l ∙ ap (λ (x : ℕ). x * n) (p i refl .0))
 
--- From left to right, one more at the end
+-- Both memories at once
 
-module _ {as′ : List (Option ℕ)} {ls : List (List Core)} (all : AllCounted as′ ls) (a : Option ℕ) (l : List Core) (p : Counted a l) where
-  -- a record's members
-  pub record-more : packed (lift2 _++_ (unpacked (rowWords (sumFlat as′) (concat ls))) (unpacked (rowWords a l))) ≡ rowWords (sumFlat (as′ ++ a ∷ [])) (concat (ls ++ l ∷ []))
-  record-more =
-      append-words (sumFlat as′) a (concat ls) l (counted-concat all) p
-      ∙ sym (ap₂ rowWords (sumFlat-more as′ a) (concat-more ls l))
-
-  -- a variant's payloads
-  pub variant-more : packed (lift2 joinLists (unpacked (rowWords (greatestFlat as′) (joinAll [] ls))) (unpacked (rowWords a l))) ≡ rowWords (greatestFlat (as′ ++ a ∷ [])) (joinAll [] (ls ++ l ∷ []))
-  variant-more =
-      join-words (greatestFlat as′) a (joinAll [] ls) l (counted-joinAll all) p
-      ∙ sym (ap₂ rowWords (greatestFlat-more as′ a) (joinAll-more [] ls l))
-
--- the discriminant comes in front when all are joined
-pub variant-words : {as′ : List (Option ℕ)} {ls : List (List Core)} → AllCounted as′ ls → packed (lift (λ l. I32 ∷ l) (unpacked (rowWords (greatestFlat as′) (joinAll [] ls)))) ≡ rowWords (variantCount as′) (I32 ∷ joinAll [] ls)
-variant-words {as′} {ls} all = discriminant-words (greatestFlat as′) (joinAll [] ls) (counted-joinAll all)
-
--- All from the first to the last, as one fold
-
-abbrev pub steps : (List Core → List Core → List Core) → Packed → List Packed → Packed
-steps g p [] = p
-steps g p (q ∷ qs) = steps g (packed (lift2 g (unpacked p) (unpacked q))) qs
-
-abbrev pub allWords : List (Option ℕ) → List (List Core) → List Packed
-allWords [] ls = []
-allWords (a ∷ as′) [] = []
-allWords (a ∷ as′) (l ∷ ls) = rowWords a l ∷ allWords as′ ls
-
-module _
-    (g : List Core → List Core → List Core)
-    (whole : List (Option ℕ) → List (List Core) → Packed)
-    (more : (as′ : List (Option ℕ)) (ls : List (List Core)) → AllCounted as′ ls → (a : Option ℕ) (l : List Core) → Counted a l → packed (lift2 g (unpacked (whole as′ ls)) (unpacked (rowWords a l))) ≡ whole (as′ ++ a ∷ []) (ls ++ l ∷ []))
+-- the words in one memory
+pub both-in : (o : Option ℕ) (ls : Memory → List Core) → Counted o (ls mem32) → (m : Memory) → memoryWords m (rowBoth o ls) ≡ rowFlat o (ls m)
+both-in o ls = go o
   where
-    from : {as′ bs : List (Option ℕ)} {ks ls : List (List Core)} → AllCounted as′ ks → AllCounted bs ls → steps g (whole as′ ks) (allWords bs ls) ≡ whole (as′ ++ bs) (ks ++ ls)
-    from {as′} {ks = ks} p nil = sym (ap₂ whole (append-nil as′) (append-nil ks))
-    from {as′} {ks = ks} p (cons {a} {l} {as′ = bs} {ls} c q) =
-        ap (λ (x : Packed). steps g x (allWords bs ls)) (more as′ ks p a l c)
-        ∙ from (allCounted-append p (cons c nil)) q
-        ∙ ap₂ whole (append-assoc as′ (a ∷ []) bs) (append-assoc ks (l ∷ []) ls)
+    go : (o : Option ℕ) → Counted o (ls mem32) → (m : Memory) → memoryWords m (rowBoth o ls) ≡ rowFlat o (ls m)
+    go none c mem32 = refl
+    go none c mem64 = refl
+    go (some n) c m = ap (λ (x : ℕ). record { number = n; types = x }) (half (λ i. pack (ls i)) (pack-fits (ls mem32) 16 (let e = c n refl in omega arith)) m)
 
-module _ {as′ : List (Option ℕ)} {ls : List (List Core)} (all : AllCounted as′ ls) where
-  pub record-steps : steps _++_ (rowWords (some 0) []) (allWords as′ ls) ≡ rowWords (sumFlat as′) (concat ls)
-  unfolding sumFlat concat
-  record-steps = from _++_ (λ bs ks. rowWords (sumFlat bs) (concat ks)) (λ bs ks. record-more) nil all
+-- and from the words in each
+pub in-both : (p : Packed) (o : Option ℕ) (ls : Memory → List Core) → ((m : Memory) → memoryWords m p ≡ rowFlat o (ls m)) → p ≡ rowBoth o ls
+in-both p o ls e =
+    ap (λ (w : ℕ). record { number = p .number; types = w }) (sym (whole-halves (p .types)))
+    ∙ (λ i. record { number = e mem32 i .number; types = whole (record { in32 = e mem32 i .types; in64 = e mem64 i .types }) })
 
-  pub variant-steps : steps joinLists (rowWords (some 0) []) (allWords as′ ls) ≡ rowWords (greatestFlat as′) (joinAll [] ls)
-  unfolding greatestFlat joinAll
-  variant-steps = from joinLists (λ bs ks. rowWords (greatestFlat bs) (joinAll [] ks)) (λ bs ks. variant-more) nil all
+module _ (a b : Option ℕ) (ks ls : Memory → List Core) (p : (m : Memory) → Counted a (ks m)) (q : (m : Memory) → Counted b (ls m)) where
+  pub append-row : appendTo 16 (rowBoth a ks) (rowBoth b ls) ≡ rowBoth (addFlat a b) (λ m. ks m ++ ls m)
+  unfolding appendTo addFlat
+  append-row = go a b p q
+    where
+      go : (a b : Option ℕ) → ((m : Memory) → Counted a (ks m)) → ((m : Memory) → Counted b (ls m)) → appendTo 16 (rowBoth a ks) (rowBoth b ls) ≡ rowBoth (addFlat a b) (λ m. ks m ++ ls m)
+      go none b p q = rw (lt-leb (255 + countWord b) 16 (omega arith))
+      go (some i) none p q = rw (lt-leb (i + 255) 16 (omega arith))
+      go (some i) (some j) p q = sum (leb (i + j) 16) refl
+        where
+          sum :
+              (t : Bool) → leb (i + j) 16 ≡ t →
+              cond t (record { number = i + j; types = appendWord i (whole (both (λ m. pack (ks m)))) (whole (both (λ m. pack (ls m)))) }) noList
+              ≡ rowBoth (cond t (some (i + j)) none) (λ m. ks m ++ ls m)
+          sum false e = refl
+          sum true e =
+              ap (λ (x : ℕ). record { number = i + j; types = x })
+              (append-both i j (λ m. pack (ks m)) (λ m. pack (ls m)) (leb-true (i + j) 16 e)
+              (λ m. rw (p m i refl .0) at (pack-lt (ks m))) (λ m. rw (q m j refl .0) at (pack-lt (ls m)))
+              ∙ whole-same _ (λ m. pack (ks m ++ ls m)) (λ m. rw (p m i refl .0) at (sym (pack-append (ks m) (ls m)))))
 
--- Words that are written at once
+  pub join-row : joined (rowBoth a ks) (rowBoth b ls) ≡ rowBoth (maxFlat a b) (λ m. joinLists (ks m) (ls m))
+  unfolding joined maxFlat
+  join-row = go a b p q
+    where
+      go : (a b : Option ℕ) → ((m : Memory) → Counted a (ks m)) → ((m : Memory) → Counted b (ls m)) → joined (rowBoth a ks) (rowBoth b ls) ≡ rowBoth (maxFlat a b) (λ m. joinLists (ks m) (ls m))
+      go none b p q = rw (lt-leb (max 255 (countWord b)) 16 (omega arith))
+      go (some i) none p q = rw (lt-leb (max i 255) 16 (omega arith))
+      go (some i) (some j) p q =
+          let x = p mem32 i refl in
+          let y = q mem32 j refl in
+          rw (le-leb (max i j) 16 (omega arith))
+          (ap (λ (x : ℕ). record { number = max i j; types = x })
+          (joined-both (min i j) ks ls (λ m. let v = p m i refl in let w = q m j refl in omega arith) (omega arith) (omega arith)))
 
-pub empty-words : (m : Memory) → wordsIn m (record { count = 0; memory32 = 0; memory64 = 0 }) ≡ rowWords (some 0) []
+-- a discriminant in front
+pub discriminant-row : (a : Option ℕ) (ls : Memory → List Core) → ((m : Memory) → Counted a (ls m)) → appendTo 16 oneI32 (rowBoth a ls) ≡ rowBoth (addFlat (some 1) a) (λ m. I32 ∷ ls m)
 unfolding pack
-empty-words mem32 = refl
-empty-words mem64 = refl
+discriminant-row a ls q = append-row (some 1) a (λ m. I32 ∷ []) ls (λ m n e. let f : 1 ≡ n = cc in omega arith) q
 
-pub enum-words : (m : Memory) → wordsIn m (record { count = 1; memory32 = 0; memory64 = 0 }) ≡ rowWords (variantCount []) (I32 ∷ [])
-unfolding pack greatestFlat addFlat
-enum-words mem32 = refl
-enum-words mem64 = refl
+-- All from the first to the last
 
-pub pair-words : (m : Memory) → wordsIn m (record { count = 2; memory32 = 0; memory64 = 5 }) ≡ rowWords (some 2) (pairFlat m)
-unfolding pack
-pair-words mem32 = refl
-pair-words mem64 = refl
+abbrev pub steps : (Packed → Packed → Packed) → Packed → List Packed → Packed
+steps g p [] = p
+steps g p (q ∷ qs) = steps g (g p q) qs
 
-pub flags-words : (n : ℕ) → packed (some (flagsFlat n)) ≡ rowWords (flagsCount n) (flagsFlat n)
+-- of counts, and of the lists in both memories
+abbrev pub allBoth : List (Option ℕ) → List (List Core) → List (List Core) → List Packed
+allBoth [] ks ls = []
+allBoth (a ∷ as′) [] ls = []
+allBoth (a ∷ as′) (k ∷ ks) [] = []
+allBoth (a ∷ as′) (k ∷ ks) (l ∷ ls) = rowBoth a (pair k l) ∷ allBoth as′ ks ls
+
+counted-pair : {a : Option ℕ} (k l : List Core) → Counted a k → Counted a l → (m : Memory) → Counted a (pair k l m)
+counted-pair k l p q mem32 = p
+counted-pair k l p q mem64 = q
+
+records-from :
+    {as′ : List (Option ℕ)} {ks ls : List (List Core)} (a : Option ℕ) (k l : List Core) →
+    Counted a k → Counted a l → AllCounted as′ ks → AllCounted as′ ls →
+    steps (appendTo 16) (rowBoth a (pair k l)) (allBoth as′ ks ls) ≡ rowBoth (sums a as′) (pair (k ++ concat ks) (l ++ concat ls))
+unfolding sums concat
+records-from a k l p q nil nil = sym (ap₂ (λ (x y : List Core). rowBoth a (pair x y)) (append-nil k) (append-nil l))
+records-from a k l p q (cons {a = b} {l = r} {as′ = bs} {ls = ks} c cs) (cons {l = s} {ls = ls} d ds) =
+    ap (λ (x : Packed). steps (appendTo 16) x (allBoth bs ks ls)) (append-row a b (pair k l) (pair r s) (counted-pair k l p q) (counted-pair r s c d))
+    ∙ records-from (addFlat a b) (k ++ r) (l ++ s) (counted-append a b k r p c) (counted-append a b l s q d) cs ds
+    ∙ ap₂ (λ (x y : List Core). rowBoth (sums (addFlat a b) bs) (pair x y)) (append-assoc k r (concat ks)) (append-assoc l s (concat ls))
+
+variants-from :
+    {as′ : List (Option ℕ)} {ks ls : List (List Core)} (a : Option ℕ) (k l : List Core) →
+    Counted a k → Counted a l → AllCounted as′ ks → AllCounted as′ ls →
+    steps joined (rowBoth a (pair k l)) (allBoth as′ ks ls) ≡ rowBoth (greats a as′) (pair (joinAll k ks) (joinAll l ls))
+unfolding greats joinAll
+variants-from a k l p q nil nil = refl
+variants-from a k l p q (cons {a = b} {l = r} {as′ = bs} {ls = ks} c cs) (cons {l = s} {ls = ls} d ds) =
+    ap (λ (x : Packed). steps joined x (allBoth bs ks ls)) (join-row a b (pair k l) (pair r s) (counted-pair k l p q) (counted-pair r s c d))
+    ∙ variants-from (maxFlat a b) (joinLists k r) (joinLists l s) (counted-join a b k r p c) (counted-join a b l s q d) cs ds
+
+nothing : Counted (some 0) []
+nothing n e = let f : 0 ≡ n = cc in omega arith
+
+abbrev pub noRow : Packed
+noRow = record { number = 0; types = 0 }
+
+module _ {as′ : List (Option ℕ)} (ls : Memory → List (List Core)) (p : (m : Memory) → AllCounted as′ (ls m)) where
+  pub record-steps : steps (appendTo 16) noRow (allBoth as′ (ls mem32) (ls mem64)) ≡ rowBoth (sumFlat as′) (λ m. concat (ls m))
+  unfolding pack
+  record-steps = records-from (some 0) [] [] nothing nothing (p mem32) (p mem64) ∙ ap (λ (o : Option ℕ). rowBoth o (λ m. concat (ls m))) (sums-sum as′)
+
+  pub variant-steps : steps joined noRow (allBoth as′ (ls mem32) (ls mem64)) ≡ rowBoth (greatestFlat as′) (λ m. joinAll [] (ls m))
+  unfolding pack
+  variant-steps = variants-from (some 0) [] [] nothing nothing (p mem32) (p mem64) ∙ ap (λ (o : Option ℕ). rowBoth o (λ m. joinAll [] (ls m))) (greats-greatest as′)
+
+-- Words that are written at once, in one memory
+
+pub flags-words : (n : ℕ) → packed (some (flagsFlat n)) ≡ rowFlat (flagsCount n) (flagsFlat n)
 unfolding packedTo
 flags-words zero = refl
 flags-words (suc n) = refl
@@ -197,8 +236,8 @@ at-each P (u ∷ ts) w (suc k) t e = at-each P ts (w .1) k t e
 pub plain-words :
     (m : Memory) (w : ℕ) (t : Ty) →
     getElem? plain w ≡ some t →
-    packed (lift (flatten m) (getElem? plain w)) ≡ rowWords (flatCount t) (flatten m t)
+    packed (lift (flatten m) (getElem? plain w)) ≡ rowFlat (flatCount t) (flatten m t)
 unfolding packedTo flatten flatCount
 plain-words m w t e =
     rw e
-    (at-each (λ t. packed (some (flatten m t)) ≡ rowWords (flatCount t) (flatten m t)) plain (refl, (refl, (refl, (refl, (refl, (refl, (refl, (refl, (refl, (refl, (refl, (refl, (refl, (refl, (refl, (refl, (refl, (refl, tt)))))))))))))))))) w t e)
+    (at-each (λ t. packed (some (flatten m t)) ≡ rowFlat (flatCount t) (flatten m t)) plain (refl, (refl, (refl, (refl, (refl, (refl, (refl, (refl, (refl, (refl, (refl, (refl, (refl, (refl, (refl, (refl, (refl, (refl, tt)))))))))))))))))) w t e)

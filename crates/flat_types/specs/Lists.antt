@@ -3,22 +3,15 @@ use mathlib.Core.Path.{_≡_}
 use mathlib.Core.Bool.{Bool, cond, _&&_}
 use mathlib.Core.List.{List}
 use mathlib.Core.Option.{Option, none, some}
-use Prim.Native.Nat.{ℕ}
+use Prim.Native.Nat.{ℕ, _+_, _*_, _/_, _%_, _^_}
 use lib.Dec.{leb}
 use lib.ListN.{length}
-use Rattle.canon.specs.Layout.{Memory, mem32, mem64, within}
-use Rattle.canon.specs.Flat.{Core}
+use Rattle.canon.specs.Layout.{Memory, Both, within}
 use Rattle.canon.specs.Pack.{Packed, pack, unpack}
 use Rattle.canon.specs.Row.{countOf, goodCount, unusedZero}
+use Rattle.canon.specs.Types.{Core}
 use Rattle.flat_types.specs.declared.both.FlatTypes.{FlatTypes}
 use Rattle.flat_types.specs.declared.list.FlatList.{FlatList}
-use Rattle.flat_types.specs.declared.memory.Memory as declared
-use Rattle.flat_types.specs.declared.memory.Memory.the-variants.{Memory32, Memory64}
-
--- the memory that a parameter names
-abbrev pub memoryOf : declared.Memory → Memory
-memoryOf Memory32 = mem32
-memoryOf Memory64 = mem64
 
 -- the first types of the word, as many as are counted, whatever lies above them; none for a count above 16
 unfoldable pub unpacked : Packed → Option (List Core)
@@ -37,9 +30,24 @@ packedTo max (some l) = cond (leb (length l) max) (record { number = length l; t
 abbrev pub packed : Option (List Core) → Packed
 packed o = packedTo 16 o
 
+-- The words of both memories are one number, the 32-bit memory's in its low half
+
+abbrev pub halves : ℕ → Both ℕ
+halves w = record { in32 = w % 2 ^ 32; in64 = w / 2 ^ 32 }
+
+abbrev pub whole : Both ℕ → ℕ
+whole b = b .in64 * 2 ^ 32 + b .in32
+
+-- the count and the words of both memories
+abbrev pub bothWords : FlatTypes → Packed
+bothWords f = record { number = f .count; types = f .words }
+
 -- the count and one memory's word
+abbrev pub memoryWords : Memory → Packed → Packed
+memoryWords m p = record { number = p .number; types = within m (halves (p .types)) }
+
 abbrev pub wordsIn : Memory → FlatTypes → Packed
-wordsIn m f = record { number = f .count; types = within m (record { in32 = f .memory32; in64 = f .memory64 }) }
+wordsIn m f = memoryWords m (bothWords f)
 
 abbrev pub flatIn : Memory → FlatTypes → Option (List Core)
 flatIn m f = unpacked (wordsIn m f)
@@ -56,8 +64,12 @@ abbrev pub flat : FlatList → Option (List Core)
 flat f = unpacked (words f)
 
 -- 01, a row is well formed: "flat count is 0 to 16 or 255; unused flat bits are zero"
+unfoldable pub goodWords : Packed → Bool
+goodWords p = goodCount (countOf (p .number)) && unusedZero (countOf (p .number)) (p .types)
+
+-- in both memories
 unfoldable pub goodFlat : FlatTypes → Bool
 goodFlat f =
     goodCount (countOf (f .count))
-    && (unusedZero (countOf (f .count)) (f .memory32)
-    && unusedZero (countOf (f .count)) (f .memory64))
+    && (unusedZero (countOf (f .count)) (halves (f .words) .in32)
+    && unusedZero (countOf (f .count)) (halves (f .words) .in64))

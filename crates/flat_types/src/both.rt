@@ -1,31 +1,32 @@
-// A type's flat types in both memories: one count, and a word for each memory.
+// A type's flat types in both memories: one count, and the words of both, the 32-bit memory's in the low half.
 // A count above 16 says that there is no list; 255 is written for it, as in a row.
 ghost use mathlib.Core.Path.{_≡_};
-ghost use mathlib.Core.List.{_∷_, _++_};
 ghost use mathlib.Core.Option.{some};
 ghost use lib.ListN.{getElem?};
-ghost use Rattle.canon.specs.Answer.{lift, lift2};
-ghost use Rattle.canon.specs.Description as description;
-ghost use Rattle.canon.specs.Flat as canon;
-ghost use Rattle.canon.specs.Flat.{joinLists, copies, flagsFlat, flatten};
+ghost use Rattle.canon.specs.Answer.{lift};
+ghost use Rattle.canon.specs.Types as trees;
+ghost use Rattle.canon.specs.Flat.{copies, flagsFlat, flatten};
 ghost use Rattle.canon.specs.Row.{countOf, used};
-ghost use Rattle.flat_types.specs.Lists.{memoryOf, packed, flatIn, Holds, words, goodFlat};
-use crate::join::join_word;
-use crate::join::max;
+ghost use Rattle.types.specs.Means.{memoryOf};
+ghost use Rattle.flat_types.specs.Lists.{halves, whole, bothWords, wordsIn, flatIn, Holds, words, goodFlat};
+ghost use Rattle.flat_types.specs.Places.{oneI32, appendTo, joined};
+use crate::join::join_words;
+use crate::join::min;
 use crate::list::FlatList;
-use crate::memory::Memory;
-use crate::packed::MAX_FLAT_TYPES;
-use crate::packed::append_word;
+use crate::packed::BOTH;
+use crate::packed::HALF;
 use crate::packed::unused_zero;
-use crate::repeat::repeat_word;
+use crate::repeat::repeat_words;
+use types::MAX_FLAT_TYPES;
+use types::Memory;
+use types::max;
 
 pub struct FlatTypes {
     pub count: u32,
-    pub memory32: u32,
-    pub memory64: u32,
+    pub words: u64,
 }
 
-// The types of the references 0 to 17, packed; the place of String, which is no scalar, is not read.
+// The types of the references 0 to 17, two bits each: 7, 8 I64, 9 F32, 10 F64. The place of String, which is no scalar, is not read.
 const SCALARS: u64 = 0x39_4000;
 
 // How many types the words of a row hold.
@@ -36,35 +37,49 @@ fn types_of(count: u32) -> u32
 }
 
 impl FlatTypes {
-    pub const EMPTY: FlatTypes = FlatTypes {
-        count: 0,
-        memory32: 0,
-        memory64: 0,
-    };
+    pub const EMPTY: FlatTypes = FlatTypes { count: 0, words: 0 };
 
     pub const NONE: FlatTypes = FlatTypes {
         count: 255,
-        memory32: 0,
-        memory64: 0,
+        words: 0,
     };
 
     // An enum's list, and a variant's discriminant.
-    pub const I32: FlatTypes = FlatTypes {
-        count: 1,
-        memory32: 0,
-        memory64: 0,
-    };
+    pub const I32: FlatTypes = FlatTypes { count: 1, words: 0 };
 
-    // The list of a string, a list or a map.
+    // The list of a string, a list or a map: I32 twice (0), and I64 twice (5).
     pub const POINTER_PAIR: FlatTypes = FlatTypes {
         count: 2,
-        memory32: 0,
-        memory64: 5,
+        words: 0x5_0000_0000,
     };
+
+    // Of words 5 to 7 of a row.
+    pub fn of(count: u32, word32: u32, word64: u32) -> FlatTypes
+        ensures { λ r. ⌜ bothWords r ≡ record { number = count; types = whole (record { in32 = word32; in64 = word64 }) } ⌝ }
+    {
+        FlatTypes {
+            count,
+            words: word64 as u64 * HALF + word32 as u64,
+        }
+    }
+
+    pub fn word32(self) -> u32
+        ensures { λ r. ⌜ r ≡ halves (self .words) .in32 ⌝ }
+    {
+        let word = self.words % HALF;
+        word as u32
+    }
+
+    pub fn word64(self) -> u32
+        ensures { λ r. ⌜ r ≡ halves (self .words) .in64 ⌝ }
+    {
+        let word = self.words / HALF;
+        word as u32
+    }
 
     // The list of a reference without a definition; none for every other word.
     pub fn plain(reference: u32) -> FlatTypes
-        ensures { λ r. ⌜ Holds r (λ m. lift (flatten m) (getElem? description.plain reference)) ⌝ }
+        ensures { λ r. ⌜ Holds r (λ m. lift (flatten m) (getElem? trees.plain reference)) ⌝ }
     {
         if reference > 17 {
             return FlatTypes::NONE;
@@ -73,11 +88,9 @@ impl FlatTypes {
             return FlatTypes::POINTER_PAIR;
         }
         let code = (SCALARS >> (reference * 2)) & 3;
-        let word = code as u32;
         FlatTypes {
             count: 1,
-            memory32: word,
-            memory64: word,
+            words: code * BOTH,
         }
     }
 
@@ -92,29 +105,30 @@ impl FlatTypes {
         }
     }
 
-    // A record's step: the types of one more member behind those so far.
-    pub fn append(self, next: FlatTypes) -> FlatTypes
-        ensures { λ r. ⌜ Holds r (λ m. lift2 _++_ (flatIn m self) (flatIn m next)) ⌝ }
+    // The words of both memories as one word.
+    fn list(self) -> FlatList
+        ensures { λ r. ⌜ words r ≡ bothWords self ⌝ }
     {
-        let m = self.count;
-        let n = next.count;
-        let sum = m as u64 + n as u64;
-        if sum > MAX_FLAT_TYPES as u64 {
-            return FlatTypes::NONE;
+        FlatList {
+            count: self.count,
+            types: self.words,
         }
-        let count = sum as u32;
-        let memory32 = append_word(m, self.memory32, n, next.memory32);
-        let memory64 = append_word(m, self.memory64, n, next.memory64);
+    }
+
+    // A record's step: the types of one more member behind those so far, in both memories by one shift.
+    pub fn append(self, next: FlatTypes) -> FlatTypes
+        ensures { λ r. ⌜ bothWords r ≡ appendTo 16 (bothWords self) (bothWords next) ⌝ }
+    {
+        let all = self.list().append(next.list());
         FlatTypes {
-            count,
-            memory32,
-            memory64,
+            count: all.count,
+            words: all.types,
         }
     }
 
     // A variant's step: the types of one more payload joined to those so far.
     pub fn join(self, next: FlatTypes) -> FlatTypes
-        ensures { λ r. ⌜ Holds r (λ m. lift2 joinLists (flatIn m self) (flatIn m next)) ⌝ }
+        ensures { λ r. ⌜ bothWords r ≡ joined (bothWords self) (bothWords next) ⌝ }
     {
         let m = self.count;
         let n = next.count;
@@ -122,18 +136,14 @@ impl FlatTypes {
         if count > MAX_FLAT_TYPES {
             return FlatTypes::NONE;
         }
-        let memory32 = join_word(m, self.memory32, n, next.memory32);
-        let memory64 = join_word(m, self.memory64, n, next.memory64);
-        FlatTypes {
-            count,
-            memory32,
-            memory64,
-        }
+        let least = min(m, n);
+        let words = join_words(least, self.words, next.words);
+        FlatTypes { count, words }
     }
 
     // A variant's list, of its joined payloads.
     pub fn with_discriminant(self) -> FlatTypes
-        ensures { λ r. ⌜ Holds r (λ m. lift (λ l. canon.I32 ∷ l) (flatIn m self)) ⌝ }
+        ensures { λ r. ⌜ bothWords r ≡ appendTo 16 oneI32 (bothWords self) ⌝ }
     {
         FlatTypes::I32.append(self)
     }
@@ -151,13 +161,8 @@ impl FlatTypes {
             return FlatTypes::NONE;
         }
         let count = product as u32;
-        let memory32 = repeat_word(m, self.memory32, n);
-        let memory64 = repeat_word(m, self.memory64, n);
-        FlatTypes {
-            count,
-            memory32,
-            memory64,
-        }
+        let words = repeat_words(m, self.words, n);
+        FlatTypes { count, words }
     }
 
     // Whether a row may hold these three words.
@@ -168,21 +173,30 @@ impl FlatTypes {
         if count > MAX_FLAT_TYPES {
             return false;
         }
-        if unused_zero(count, self.memory32) {
-            unused_zero(count, self.memory64)
-        } else {
-            false
-        }
+        let either = self.word32() | self.word64();
+        unused_zero(count, either)
     }
 
-    // The list in one memory alone.
+    // The count and the word of one memory alone.
     pub fn in_memory(self, memory: Memory) -> FlatList
-        ensures { λ r. ⌜ words r ≡ packed (flatIn (memoryOf memory) self) ⌝ }
+        ensures { λ r. ⌜ words r ≡ wordsIn (memoryOf memory) self ⌝ }
     {
-        let n = self.count;
+        let count = self.count;
         match memory {
-            Memory::Memory32 => FlatList::of(n, self.memory32 as u64),
-            Memory::Memory64 => FlatList::of(n, self.memory64 as u64),
+            Memory::Memory32 => {
+                let word = self.word32();
+                FlatList {
+                    count,
+                    types: word as u64,
+                }
+            }
+            Memory::Memory64 => {
+                let word = self.word64();
+                FlatList {
+                    count,
+                    types: word as u64,
+                }
+            }
         }
     }
 }

@@ -2,11 +2,8 @@
 mod both;
 mod join;
 mod list;
-mod memory;
 mod packed;
 mod repeat;
 
 pub use both::FlatTypes;
 pub use list::FlatList;
-pub use memory::Memory;
-pub use packed::MAX_FLAT_TYPES;

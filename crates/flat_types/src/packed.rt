@@ -1,12 +1,16 @@
-// The packed types of one list, as a number.
+// Packed types as a number: of one list, or of both memories' lists, one in each half of 64 bits.
 ghost use mathlib.Core.Path.{_≡_};
-ghost use mathlib.Core.List.{_++_};
-ghost use Prim.Native.Nat.{_+_, _/_, _^_, _≤_};
+ghost use Prim.Native.Nat.{_/_, _^_, _≤_};
 ghost use lib.Dec.{eqb};
+ghost use Rattle.canon.specs.Layout.{both, within};
 ghost use Rattle.canon.specs.Pack.{pack, unpack};
+ghost use Rattle.flat_types.specs.Lists.{halves, whole};
 
-// Maximum number of flat types, for either params or results.
-pub const MAX_FLAT_TYPES: u32 = 16;
+// The value of the high half's first bit.
+pub(crate) const HALF: u64 = 0x1_0000_0000;
+
+// A one in each half: a product with it puts one memory's word into both.
+pub(crate) const BOTH: u64 = 0x1_0000_0001;
 
 // The first types of a word, the bits above them cleared.
 pub(crate) fn used(count: u32, word: u64) -> u64
@@ -17,23 +21,13 @@ pub(crate) fn used(count: u32, word: u64) -> u64
     word & ones
 }
 
-// One list behind another.
-pub(crate) fn append(m: u32, a: u64, n: u32, b: u64) -> u64
-    requires { ⌜ (m ≤ 16) × (n ≤ 16) ⌝ }
-    ensures { λ r. ⌜ r ≡ pack (unpack m a ++ unpack n b) ⌝ }
+// The same in each half.
+pub(crate) fn used_both(count: u32, words: u64) -> u64
+    requires { ⌜ count ≤ 16 ⌝ }
+    ensures { λ r. ⌜ r ≡ whole (both (λ m. pack (unpack count (within m (halves words))))) ⌝ }
 {
-    let low = used(m, a);
-    let high = used(n, b);
-    low + (high << (m * 2))
-}
-
-// Two lists that fit one word together.
-pub(crate) fn append_word(m: u32, a: u32, n: u32, b: u32) -> u32
-    requires { ⌜ m + n ≤ 16 ⌝ }
-    ensures { λ r. ⌜ r ≡ pack (unpack m a ++ unpack n b) ⌝ }
-{
-    let whole = append(m, a as u64, n, b as u64);
-    whole as u32
+    let ones = (1u64 << (count * 2)) - 1;
+    words & (ones * BOTH)
 }
 
 // Whether nothing lies above the first types of a word.

@@ -1,12 +1,14 @@
-// Copies of a list by one multiplication.
+// Copies of both memories' lists by one multiplication.
 ghost use mathlib.Core.Path.{_≡_};
 ghost use Prim.Native.Nat.{_*_, _/_, _^_, _≤_};
 ghost use Rattle.canon.specs.Flat.{copies};
+ghost use Rattle.canon.specs.Layout.{both, within};
 ghost use Rattle.canon.specs.Pack.{pack, unpack};
+ghost use Rattle.flat_types.specs.Lists.{halves, whole};
 ghost use Rattle.flat_types.specs.Places.{ones};
-use crate::packed::used;
+use crate::packed::used_both;
 
-// A one at the first place of each copy, for as many copies as 16 types hold.
+// A one at the first place of each copy, for as many copies as 16 types hold: every 2nd bit, every 4th, every 6th ..
 fn every(count: u32) -> u64
     requires { ⌜ count ≤ 16 ⌝ }
     ensures { λ r. ⌜ r ≡ ones (16 / count) (4 ^ count) ⌝ }
@@ -26,12 +28,11 @@ fn every(count: u32) -> u64
 }
 
 // The first n copies of as many as 16 types hold.
-pub(crate) fn repeat_word(m: u32, a: u32, n: u32) -> u32
+pub(crate) fn repeat_words(m: u32, words: u64, n: u32) -> u64
     requires { ⌜ (m ≤ 16) × (m * n ≤ 16) ⌝ }
-    ensures { λ r. ⌜ r ≡ pack (copies n (unpack m a)) ⌝ }
+    ensures { λ r. ⌜ r ≡ whole (both (λ i. pack (copies n (unpack m (within i (halves words)))))) ⌝ }
 {
     let count = m * n;
-    let all = used(m, a as u64) * every(m);
-    let first = used(count, all);
-    first as u32
+    let all = used_both(m, words) * every(m);
+    used_both(count, all)
 }

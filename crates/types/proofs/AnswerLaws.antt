@@ -1,21 +1,24 @@
 -- What each function of an info finds call by call is 01's answer.
 use mathlib.Core.Path.{_≡_, refl, sym, ap, _∙_}
-use mathlib.Core.Bool.{Bool, true, false, cond, not, _||_, _&&_}
+use mathlib.Core.Bool.{Bool, true, false, cond, not, _||_}
 use mathlib.Core.List.{List, [], _∷_}
-use mathlib.Core.Option.{Option, some}
-use Prim.Native.Nat.{ℕ, zero, suc, _+_, _*_, _<_, max}
+use mathlib.Core.Option.{some}
+use Prim.Native.Nat.{ℕ, zero, suc, _+_, _*_, _≤_, _<_, max, min}
 use native.Mathlib.Omega.{arith}
 use lib.Dec.{eqb, ltb}
+use borrow.Author.Tests.{ltb-false}
 use Rattle.canon.specs.Answer.{Leaf, is, no, badCount, tooLarge, andThen}
-use Rattle.canon.specs.Round.{roundUp, Alignment, by1, by2, by4, by8}
 use Rattle.canon.specs.Layout.{
   Memory,
   mem32,
   mem64,
+  Both,
   both,
   within,
   Layout,
   square,
+  starts,
+  ends,
   discriminant,
   greatestAlign,
   greatestSize,
@@ -23,70 +26,85 @@ use Rattle.canon.specs.Layout.{
   variantSize,
   variantLayout,
   largestNumber,
+  roundUp,
 }
+use Rattle.canon.specs.Placement.{fourGiB}
 use Rattle.canon.specs.Flat.{addFlat, greatestFlat, flagsCount, timesFlat}
-use Rattle.canon.specs.Row.{Abi, goodLayout, goodAbi}
+use Rattle.canon.specs.Row.{Abi, goodAbi}
 use Rattle.canon.specs.Description.{someAbove}
 use Rattle.canon.proofs.Alignments.{discriminant-alignment}
 use Rattle.canon.proofs.Sizes.{above-append, last-decides}
-use Rattle.types.specs.declared.extent.Extent.{Extent}
-use Rattle.types.specs.Leaves.{scalarAbi, given, fitting, inEither, nextField, discriminantAnswer, enumAnswer, fixedAnswer}
-use Rattle.types.specs.Extents.{endsAt, tooFar, reach, fieldOf}
-use Rattle.types.specs.States.{fitted}
-use Rattle.types.proofs.RoundLaws.{alignment-is}
-use Rattle.types.proofs.ExtentLaws.{field-exact}
+use Rattle.canon.proofs.Rounding.{Alignment, by1, by2, by4, by8}
+use Rattle.types.specs.Leaves.{
+  scalarAbi,
+  given,
+  fitting,
+  inEither,
+  Field,
+  fieldAfter,
+  discriminantAnswer,
+  enumAnswer,
+  fixedAnswer,
+}
+use Rattle.types.specs.Extents.{extentAt, memberOf, isLarge, fittedOf}
+use Rattle.types.specs.States.{fittedAbi}
+use Rattle.types.proofs.ExtentLaws.{reach-is, reach-large, member-reach, fitted-reach}
 
-pub and-left : (a b : Bool) → (a && b) ≡ true → a ≡ true
-and-left true b e = refl
-and-left false b e = e
-
-pub and-right : (a b : Bool) → (a && b) ≡ true → b ≡ true
-and-right true b e = e
-and-right false b e = absurd (let z : _≡_ {A = ℕ} 0 1 = cc in omega arith)
-
--- a good info is aligned in both memories
-pub good-aligned : (i : Abi) → goodAbi i ≡ true → (m : Memory) → Alignment (within m (i .layouts) .align)
-unfolding goodAbi goodLayout
-good-aligned i e mem32 = alignment-is _ (and-left _ _ (and-left (goodLayout (i .layouts .in32)) _ e))
-good-aligned i e mem64 =
-    alignment-is _ (and-left _ _ (and-left (goodLayout (i .layouts .in64)) _ (and-right (goodLayout (i .layouts .in32)) _ e)))
-
--- two extents, where the sizes alone decide
-pub fitted-fits :
-    (ns : Memory → List ℕ) (f : Memory → Layout) (c : Option ℕ) →
+-- what is made of two exact ends, where the sizes alone decide
+pub fitted-answer :
+    {A : Type 0} (k : Both Layout → A) (ns : Memory → List ℕ) (f : Memory → Layout) →
     ((m : Memory) → someAbove largestNumber (ns m) ≡ ltb largestNumber (f m .size)) →
-    fitted (both (λ m. reach (f m .size) (f m .align))) c ≡ fitting (inEither ns) (record { layouts = both f; flats = c })
-unfolding fitted fitting reach
-fitted-fits ns f c h =
-    rw (above-append largestNumber (ns mem32) (ns mem64), h mem32, h mem64)
-    (go (ltb largestNumber (f mem32 .size)) (ltb largestNumber (f mem64 .size)))
+    andThen (fittedOf (both (λ m. extentAt (f m .size) (f m .align)))) (λ ls. is (k ls)) ≡ fitting (inEither ns) (k (both f))
+unfolding fitting andThen
+fitted-answer {A} k ns f h =
+    rw (fitted-reach f, above-append largestNumber (ns mem32) (ns mem64), h mem32, h mem64)
+    (go (ltb largestNumber (f mem32 .size) || ltb largestNumber (f mem64 .size)))
   where
-    end : Memory → Bool → Extent
-    end m b = cond b (tooFar (f m .align)) (endsAt (f m .size) (f m .align))
-
-    go : (b d : Bool) → fitted (record { in32 = end mem32 b; in64 = end mem64 d }) c
-        ≡ cond (b || d) (no tooLarge) (is (record { layouts = both f; flats = c }))
-    go true d = refl
-    go false true = refl
-    go false false = refl
+    go : (b : Bool) → andThen (cond b (no tooLarge) (is (both f))) (λ ls. is (k ls)) ≡ cond b (no tooLarge) (is (k (both f)))
+    go true = refl
+    go false = refl
 
 -- `fixed_length_list`
 pub fixed-answer :
     (i : Abi) (n : ℕ) →
     goodAbi i ≡ true →
-    fitted (both (λ m. reach (within m (i .layouts) .size * n) (within m (i .layouts) .align))) (timesFlat (i .flats) n) ≡ fixedAnswer i n
-unfolding fixedAnswer given
+    fittedAbi (both (λ m. extentAt (within m (i .layouts) .size * n) (within m (i .layouts) .align))) (timesFlat (i .flats) n) ≡ fixedAnswer i n
+unfolding fittedAbi fixedAnswer given
 fixed-answer i n e =
     rw e
-    (fitted-fits (λ m. within m (i .layouts) .size * n ∷ [])
+    (fitted-answer (λ ls. record { layouts = ls; flats = timesFlat (i .flats) n }) (λ m. within m (i .layouts) .size * n ∷ [])
     (λ m. record { size = within m (i .layouts) .size * n; align = within m (i .layouts) .align })
-    (timesFlat (i .flats) n)
     (λ m. last-decides largestNumber [] (within m (i .layouts) .size * n) tt))
 
--- `next_field32` and `next_field64`
-pub next-field : (m : Memory) (i : Abi) (e : ℕ) → goodAbi i ≡ true → fieldOf e (within m (i .layouts)) ≡ nextField m i e
-unfolding nextField given
-next-field m i e g = rw g (field-exact e (within m (i .layouts)) (good-aligned i g m))
+-- `next_field32` and `next_field64`: the field is a member of an extent that begins at the end
+pub field-step :
+    (e : ℕ) (f : Layout) →
+    Alignment (f .align) →
+    e ≤ largestNumber →
+    fieldAfter e f
+    ≡ cond (isLarge (memberOf (record { end = e; align = 1 }) f .extent)) (no tooLarge)
+    (is (record { offset = memberOf (record { end = e; align = 1 }) f .start; end = memberOf (record { end = e; align = 1 }) f .extent .end }))
+unfolding fieldAfter fitting starts ends
+field-step e f w h =
+    rw (
+      last-decides largestNumber (roundUp e (f .align) ∷ []) (roundUp e (f .align) + f .size) (omega arith, tt),
+      ← reach-is e 1 (omega arith),
+      member-reach e 1 f w,
+      reach-large (roundUp e (f .align) + f .size) (max 1 (f .align)),
+    )
+    (go (ltb largestNumber (roundUp e (f .align) + f .size)) refl)
+  where
+    go :
+        (b : Bool) →
+        ltb largestNumber (roundUp e (f .align) + f .size) ≡ b →
+        cond {A = Leaf Field} b (no tooLarge) (is (record { offset = roundUp e (f .align); end = roundUp e (f .align) + f .size }))
+        ≡ cond b (no tooLarge)
+        (is (record { offset = min (roundUp e (f .align)) fourGiB; end = extentAt (roundUp e (f .align) + f .size) (max 1 (f .align)) .end }))
+    go true p = refl
+    go false p =
+        let l : roundUp e (f .align) + f .size ≤ largestNumber = ltb-false _ _ p in
+        let o : min (roundUp e (f .align)) fourGiB ≡ roundUp e (f .align) = omega arith in
+        rw (o, reach-is (roundUp e (f .align) + f .size) (max 1 (f .align)) (omega arith))
 
 -- `enum_`
 

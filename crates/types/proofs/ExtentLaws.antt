@@ -1,125 +1,160 @@
--- One memory's step is the image of the exact end: for any layout by `rounded`, over aligned ones canon's.
+-- One memory's step is the image of the exact end: over aligned layouts the extent is the one that canon's end reaches.
 use mathlib.Core.Path.{_≡_, refl, sym, ap, _∙_}
-use mathlib.Core.Bool.{Bool, true, false, cond}
-use mathlib.Core.List.{List, [], _∷_, _++_}
-use Prim.Native.Nat.{ℕ, _+_, _≤_, _<_, max}
-use native.Mathlib.Nat.{add-zero}
+use mathlib.Core.Bool.{Bool, true, false, cond, _||_}
+use mathlib.Core.List.{List, [], _∷_}
+use Prim.Native.Nat.{ℕ, _+_, _≤_, _∣_, max, min}
+use native.Mathlib.Nat.{add-zero, dvd-of-mod-eq-zero}
+use native.Mathlib.Decide.{decLe}
 use native.Mathlib.Omega.{arith}
 use lib.Dec.{ltb}
-use borrow.Author.Tests.{ltb-true, ltb-false, lt-ltb, le-ltb}
-use Rattle.canon.specs.Round.{roundUp, Alignment}
-use Rattle.canon.specs.Layout.{Layout, greatestAlign, starts, ends, lastEnd, recordSize, recordNumbers, largestNumber}
-use Rattle.canon.specs.Description.{someAbove}
-use Rattle.canon.proofs.Rounding.{alignment-pos}
+use borrow.Author.Tests.{ltb-false, lt-ltb, le-ltb}
+use Rattle.canon.specs.Answer.{is, no as refuses, tooLarge}
+use Rattle.canon.specs.Layout.{Memory, mem32, mem64, Both, both, within, Layout, greatestAlign, lastEnd, recordSize, largestNumber, roundUp}
+use Rattle.canon.specs.Placement.{fourGiB}
+use Rattle.canon.proofs.Rounding.{le-roundUp, roundUp-least, alignment-pos, Alignment, by1, by2, by4, by8}
+use Rattle.canon.proofs.Tests.{impossible}
 use Rattle.canon.proofs.Tightest.{Aligned, greatestAlign-alignment}
-use Rattle.canon.proofs.Sizes.{last-decides, members-decide, record-decides}
 use Rattle.types.specs.declared.extent.Extent.{Extent}
-use Rattle.types.specs.declared.discriminant.DiscriminantSize.{DiscriminantSize}
-use Rattle.types.specs.declared.discriminant.DiscriminantSize.the-variants.{Size1, Size2, Size4}
-use Rattle.types.specs.Leaves.{fitting, fieldAfter}
-use Rattle.types.specs.Means.{bytesOf}
-use Rattle.types.specs.Extents.{rounded, endsAt, tooFar, reach, startExtent, memberOf, closeOf, fieldOf}
+use Rattle.types.specs.declared.extent.Step.{Step}
+use Rattle.types.specs.Extents.{rounded, extentAt, startExtent, memberOf, closeOf, isLarge, layoutOf, fittedOf}
 use Rattle.types.proofs.RoundLaws.{rounded-aligned, rounded-between}
 
-pub reach-over : (e a : ℕ) → largestNumber < e → reach e a ≡ tooFar a
-unfolding reach
-reach-over e a h = simp (lt-ltb largestNumber e h)
+-- what holds in each memory holds in both
+pub both-same : {A : Type 0} {f g : Memory → A} → ((m : Memory) → f m ≡ g m) → both f ≡ both g
+both-same h = rw (h mem32, h mem64)
 
-pub reach-at : (e a : ℕ) → e ≤ largestNumber → reach e a ≡ endsAt e a
-unfolding reach
-reach-at e a h = simp (le-ltb largestNumber e h)
+-- an end up to 4 GiB is the exact one
+pub reach-is : (e a : ℕ) → e ≤ fourGiB → extentAt e a ≡ record { end = e; align = a }
+unfolding extentAt
+reach-is e a h = let p : min e fourGiB ≡ e = omega arith in rw p
 
--- a state remembers its alignment, and whether its end passed
-pub reach-align : (e a : ℕ) → reach e a .align ≡ a
-unfolding reach
-reach-align e a = go (ltb largestNumber e)
-  where
-    go : (b : Bool) → cond b (tooFar a) (endsAt e a) .align ≡ a
-    go true = refl
-    go false = refl
+-- 4 GiB is a multiple of every alignment, so that rounding keeps it
 
-pub reach-large : (e a : ℕ) → reach e a .large ≡ ltb largestNumber e
-unfolding reach
-reach-large e a = go (ltb largestNumber e)
-  where
-    go : (b : Bool) → cond b (tooFar a) (endsAt e a) .large ≡ b
-    go true = refl
-    go false = refl
+divides : {a : ℕ} → Alignment a → a ∣ fourGiB
+divides by1 = dvd-of-mod-eq-zero 1 refl
+divides by2 = dvd-of-mod-eq-zero 2 refl
+divides by4 = dvd-of-mod-eq-zero 4 refl
+divides by8 = dvd-of-mod-eq-zero 8 refl
 
--- where it did not pass, the end is the exact one: a member that was added starts its size before it
-pub reach-end : (e a : ℕ) → reach e a .large ≡ false → reach e a .end ≡ e
-reach-end e a h = rw (reach-at e a (ltb-false largestNumber e (sym (reach-large e a) ∙ h)))
+round-stops : {a : ℕ} (e : ℕ) → Alignment a → roundUp (min e fourGiB) a ≡ min (roundUp e a) fourGiB
+round-stops {a} e w =
+    elim (decLe e fourGiB) [
+      | yes h ↦
+          let p : min e fourGiB ≡ e = omega arith in
+          rw p (omega (arith, roundUp-least e a fourGiB (alignment-pos w) h (divides w)))
+      | no h ↦
+          let p : min e fourGiB ≡ fourGiB = omega arith in
+          rw p (omega (
+            arith,
+            le-roundUp e a (alignment-pos w),
+            le-roundUp fourGiB a (alignment-pos w),
+            roundUp-least fourGiB a fourGiB (alignment-pos w) (omega arith) (divides w),
+          ))
+    ]
 
--- one member more, whatever its layout
-pub member-reach : (e a : ℕ) (f : Layout) → memberOf (reach e a) f ≡ reach (rounded e (f .align) + f .size) (max a (f .align))
-unfolding memberOf
-member-reach e a f = go (ltb largestNumber e) refl
-  where
-    go : (b : Bool) → ltb largestNumber e ≡ b → memberOf (reach e a) f ≡ reach (rounded e (f .align) + f .size) (max a (f .align))
-    go true h =
-        let l : largestNumber < e = ltb-true largestNumber e h in
-        rw (reach-over e a l)
-        (sym (reach-over (rounded e (f .align) + f .size) (max a (f .align)) (omega (arith, rounded-between e (f .align)))))
-    go false h = rw (reach-at e a (ltb-false largestNumber e h))
+reach-align : (e a : ℕ) → extentAt e a .align ≡ a
+unfolding extentAt
+reach-align e a = refl
 
-pub close-reach : (e a : ℕ) → closeOf (reach e a) ≡ reach (rounded e a) a
+-- one member more: canon's start and canon's end, at most 4 GiB
+pub member-reach :
+    (e a : ℕ) (f : Layout) →
+    Alignment (f .align) →
+    memberOf (extentAt e a) f
+    ≡ record { start = min (roundUp e (f .align)) fourGiB; extent = extentAt (roundUp e (f .align) + f .size) (max a (f .align)) }
+unfolding memberOf extentAt
+member-reach e a f w =
+    let stopped : min (min e fourGiB) fourGiB ≡ min e fourGiB = omega arith in
+    let start : rounded (min e fourGiB) (f .align) ≡ min (roundUp e (f .align)) fourGiB = rounded-aligned (min e fourGiB) w ∙ round-stops e w in
+    let end : min (min (roundUp e (f .align)) fourGiB + f .size) fourGiB ≡ min (roundUp e (f .align) + f .size) fourGiB = omega arith in
+    rw (stopped, start, end)
+
+pub close-reach : (e a : ℕ) → Alignment a → closeOf (extentAt e a) ≡ extentAt (roundUp e a) a
 unfolding closeOf
-close-reach e a =
-    ap (λ (b : ℕ). memberOf (reach e a) (record { size = 0; align = b })) (reach-align e a)
-    ∙ member-reach e a (record { size = 0; align = a })
-    ∙ ap (λ (b : ℕ). reach (rounded e a + 0) b) (omega arith)
-    ∙ ap (λ (x : ℕ). reach x a) (add-zero (rounded e a))
+close-reach e a w =
+    let one : max a a ≡ a = omega arith in
+    ap (λ (b : ℕ). memberOf (extentAt e a) (record { size = 0; align = b }) .extent) (reach-align e a)
+    ∙ rw (member-reach e a (record { size = 0; align = a }) w, add-zero (roundUp e a), one)
+
+-- where a member's end fits, so does its start: it is its size before the end
+pub member-fits : (x : Extent) (f : Layout) → memberOf x f .extent .end ≤ largestNumber → memberOf x f .start + f .size ≡ memberOf x f .extent .end
+unfolding memberOf extentAt
+member-fits x f h = omega arith
+
+-- what fits once closed fitted before
+pub close-fits : (x : Extent) → closeOf x .end ≤ largestNumber → x .end ≤ largestNumber
+unfolding closeOf memberOf extentAt
+close-fits x h = omega (arith, rounded-between (min (x .end) fourGiB) (x .align) .0)
 
 -- members one after another
 unfoldable pub membersOf : Extent → List Layout → Extent
 membersOf x [] = x
-membersOf x (f ∷ fs) = membersOf (memberOf x f) fs
+membersOf x (f ∷ fs) = membersOf (memberOf x f .extent) fs
 
-members-exact : (e a : ℕ) (fs : List Layout) → 1 ≤ a → Aligned fs → membersOf (reach e a) fs ≡ reach (lastEnd e fs) (max a (greatestAlign fs))
+members-exact : (e a : ℕ) (fs : List Layout) → 1 ≤ a → Aligned fs → membersOf (extentAt e a) fs ≡ extentAt (lastEnd e fs) (max a (greatestAlign fs))
 unfolding membersOf lastEnd greatestAlign
-members-exact e a [] h w = ap (reach e) (omega arith)
+members-exact e a [] h w = ap (extentAt e) (omega arith)
 members-exact e a (f ∷ fs) h w =
-    ap (λ (x : Extent). membersOf x fs) (member-reach e a f)
-    ∙ ap (λ (x : ℕ). membersOf (reach (x + f .size) (max a (f .align))) fs) (rounded-aligned e (w .0))
+    ap (λ (s : Step). membersOf (s .extent) fs) (member-reach e a f (w .0))
     ∙ members-exact (roundUp e (f .align) + f .size) (max a (f .align)) fs (omega arith) (w .1)
-    ∙ ap (reach (lastEnd (roundUp e (f .align) + f .size) fs)) (omega arith)
+    ∙ ap (extentAt (lastEnd (roundUp e (f .align) + f .size) fs)) (omega arith)
 
 -- from the start: the last end and the greatest alignment
-pub members-reach : (fs : List Layout) → Aligned fs → membersOf startExtent fs ≡ reach (lastEnd 0 fs) (greatestAlign fs)
+pub members-reach : (fs : List Layout) → Aligned fs → membersOf startExtent fs ≡ extentAt (lastEnd 0 fs) (greatestAlign fs)
 members-reach fs w =
-    ap (λ (x : Extent). membersOf x fs) (sym (reach-at 0 1 (omega arith)))
+    ap (λ (x : Extent). membersOf x fs) (sym (reach-is 0 1 (omega arith)))
     ∙ members-exact 0 1 fs (omega arith) w
-    ∙ ap (reach (lastEnd 0 fs)) (omega (arith, alignment-pos (greatestAlign-alignment fs w)))
-
--- large exactly when some start or some end is too large
-pub members-large : (fs : List Layout) → Aligned fs → membersOf startExtent fs .large ≡ someAbove largestNumber (starts 0 fs ++ ends 0 fs)
-members-large fs w =
-    ap (λ (x : Extent). x .large) (members-reach fs w)
-    ∙ reach-large (lastEnd 0 fs) (greatestAlign fs)
-    ∙ sym (members-decide largestNumber fs w)
+    ∙ ap (extentAt (lastEnd 0 fs)) (omega (arith, alignment-pos (greatestAlign-alignment fs w)))
 
 -- closed: the size
-pub record-reach : (fs : List Layout) → Aligned fs → closeOf (membersOf startExtent fs) ≡ reach (recordSize fs) (greatestAlign fs)
+pub record-reach : (fs : List Layout) → Aligned fs → closeOf (membersOf startExtent fs) ≡ extentAt (recordSize fs) (greatestAlign fs)
 unfolding recordSize
-record-reach fs w =
-    ap closeOf (members-reach fs w)
-    ∙ close-reach (lastEnd 0 fs) (greatestAlign fs)
-    ∙ ap (λ (x : ℕ). reach x (greatestAlign fs)) (rounded-aligned (lastEnd 0 fs) (greatestAlign-alignment fs w))
+record-reach fs w = ap closeOf (members-reach fs w) ∙ close-reach (lastEnd 0 fs) (greatestAlign fs) (greatestAlign-alignment fs w)
 
--- large exactly when some start, some end or the size is too large
-pub record-large : (fs : List Layout) → Aligned fs → closeOf (membersOf startExtent fs) .large ≡ someAbove largestNumber (recordNumbers fs)
-record-large fs w =
-    ap (λ (x : Extent). x .large) (record-reach fs w)
-    ∙ reach-large (recordSize fs) (greatestAlign fs)
-    ∙ sym (record-decides largestNumber fs w)
+-- too large exactly when the exact end is
+pub reach-large : (e a : ℕ) → isLarge (extentAt e a) ≡ ltb largestNumber e
+unfolding extentAt
+reach-large e a =
+    elim (decLe e largestNumber) [
+      | yes h ↦ le-ltb largestNumber (min e fourGiB) (omega arith) ∙ sym (le-ltb largestNumber e h)
+      | no h ↦ lt-ltb largestNumber (min e fourGiB) (omega arith) ∙ sym (lt-ltb largestNumber e (omega arith))
+    ]
 
--- a field of an aligned layout
-pub field-exact : (e : ℕ) (f : Layout) → Alignment (f .align) → fieldOf e f ≡ fieldAfter e f
-unfolding fieldOf fieldAfter fitting starts ends
-field-exact e f w =
-    rw (rounded-aligned e w, last-decides largestNumber (roundUp e (f .align) ∷ []) (roundUp e (f .align) + f .size) (omega arith, tt))
+-- the layouts of two exact ends, where both fit
+pub fitted-reach :
+    (f : Memory → Layout) →
+    fittedOf (both (λ m. extentAt (f m .size) (f m .align)))
+    ≡ cond (ltb largestNumber (f mem32 .size) || ltb largestNumber (f mem64 .size)) (refuses tooLarge) (is (both f))
+unfolding fittedOf
+fitted-reach f =
+    rw (reach-large (f mem32 .size) (f mem32 .align), reach-large (f mem64 .size) (f mem64 .align))
+    (go (ltb largestNumber (f mem32 .size)) (ltb largestNumber (f mem64 .size)) refl refl)
+  where
+    go :
+        (b c : Bool) →
+        ltb largestNumber (f mem32 .size) ≡ b →
+        ltb largestNumber (f mem64 .size) ≡ c →
+        cond (b || c) (refuses tooLarge) (is (both (λ m. layoutOf (extentAt (f m .size) (f m .align))))) ≡ cond (b || c) (refuses tooLarge) (is (both f))
+    go true c p q = refl
+    go false true p q = refl
+    go false false p q =
+        let p′ : f mem32 .size ≤ largestNumber = ltb-false _ _ p in
+        let q′ : f mem64 .size ≤ largestNumber = ltb-false _ _ q in
+        rw (reach-is (f mem32 .size) (f mem32 .align) (omega arith), reach-is (f mem64 .size) (f mem64 .align) (omega arith))
 
-pub bytes-small : (s : DiscriminantSize) → bytesOf s ≤ 4
-bytes-small Size1 = omega arith
-bytes-small Size2 = omega arith
-bytes-small Size4 = omega arith
+-- what fits in both memories fits in each
+pub fitted-fits : (es : Both Extent) (ls : Both Layout) → is ls ≡ fittedOf es → (m : Memory) → within m es .end ≤ largestNumber
+unfolding fittedOf
+fitted-fits es ls h = go (isLarge (es .in32)) (isLarge (es .in64)) refl refl h
+  where
+    go :
+        (b c : Bool) →
+        isLarge (es .in32) ≡ b →
+        isLarge (es .in64) ≡ c →
+        is ls ≡ cond (b || c) (refuses tooLarge) (is (both (λ m. layoutOf (within m es)))) →
+        (m : Memory) →
+        within m es .end ≤ largestNumber
+    go true c p q h m = impossible (cc)
+    go false true p q h m = impossible (cc)
+    go false false p q h mem32 = ltb-false _ _ p
+    go false false p q h mem64 = ltb-false _ _ q

@@ -1,4 +1,4 @@
--- Laws that carry the code's steps to 01's answers, and that no second outcome meets a promise.
+-- Laws that carry the code's steps to 01's answers, that no second outcome meets a promise, and demand 3 over the promises.
 pub mod RoundLaws
 pub mod ExtentLaws
 pub mod AnswerLaws
@@ -7,6 +7,7 @@ pub mod VariantLaws
 pub mod Runs
 pub mod Told
 pub mod Unique
+pub mod Promises
 mod Fold
 mod Infos
 mod Called

@@ -1,15 +1,16 @@
 -- The four alignments: a bit of one number each, a mask each; and what rounding to any number keeps.
-use mathlib.Core.Path.{_≡_, refl, sym, ap, _∙_, subst, subst⁻¹}
-use mathlib.Core.Bool.{Bool, true, false, cond, _||_}
+use mathlib.Core.Path.{_≡_, refl, subst⁻¹}
+use mathlib.Core.Bool.{false}
 use Prim.Native.Nat.{ℕ, zero, suc, _+_, _-_, _*_, _/_, _%_, _^_, _≤_, _<_}
 use native.Mathlib.Nat.{div-add-mod, lt-of-le-of-lt, le-of-lt, mul-le-mul-left, mul-lt-mul-of-pos-right}
 use native.Mathlib.Omega.{arith}
 use lib.Dec.{eqb}
 use lib.Bits.{bitAnd, and-mask, and-le-r}
 use lib.Pow.{pow-pos, pow-add}
-use borrow.Author.Tests.{eqb-true, ne-eqb}
-use Rattle.canon.specs.Round.{roundUp, Alignment, by1, by2, by4, by8}
+use borrow.Author.Tests.{ne-eqb}
 use Rattle.canon.specs.Row.{isAlignment}
+use Rattle.canon.specs.Layout.{roundUp}
+use Rattle.canon.proofs.Rounding.{Alignment, by1, by2, by4, by8}
 use Rattle.types.specs.Extents.{rounded, lowBits}
 
 -- each alignment is a bit of 278
@@ -30,26 +31,6 @@ pub alignment-small : (a : ℕ) → 8 < a → isAlignment a ≡ false
 unfolding isAlignment
 alignment-small a h =
     simp (ne-eqb a 1 (λ e. omega arith), ne-eqb a 2 (λ e. omega arith), ne-eqb a 4 (λ e. omega arith), ne-eqb a 8 (λ e. omega arith))
-
--- what the test says
-pub alignment-is : (a : ℕ) → isAlignment a ≡ true → Alignment a
-unfolding isAlignment
-alignment-is a e =
-    either (eqb a 1) (λ h. subst Alignment (sym (eqb-true a 1 h)) by1)
-    (either (eqb a 2) (λ h. subst Alignment (sym (eqb-true a 2 h)) by2)
-    (either (eqb a 4) (λ h. subst Alignment (sym (eqb-true a 4 h)) by4) (λ h. subst Alignment (sym (eqb-true a 8 h)) by8)))
-    e
-  where
-    either : (p : Bool) {q : Bool} → (p ≡ true → Alignment a) → (q ≡ true → Alignment a) → (p || q) ≡ true → Alignment a
-    either true f g e = f refl
-    either false f g e = g e
-
-pub is-alignment : {a : ℕ} → Alignment a → isAlignment a ≡ true
-unfolding isAlignment
-is-alignment by1 = refl
-is-alignment by2 = refl
-is-alignment by4 = refl
-is-alignment by8 = refl
 
 -- the mask of what is left over
 pub mask-rest : {a : ℕ} (x : ℕ) → Alignment a → bitAnd x (a - 1) ≡ x % a

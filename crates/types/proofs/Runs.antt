@@ -9,7 +9,7 @@ use Rattle.types.specs.declared.record.RecordState.{RecordState}
 use Rattle.types.specs.declared.variant.VariantState.{VariantState}
 use Rattle.types.specs.declared.variant.VariantAnswer.{VariantAnswer}
 use Rattle.types.specs.Leaves.{recordAnswer, variantAnswer, infoAlone}
-use Rattle.types.specs.Means.{abiMeans, infoMeans, variantMeans}
+use Rattle.types.specs.Means.{abiMeans, infoAnswerMeans, variantMeans}
 use Rattle.types.specs.States.{Fields, recordMeans, addFields, closeFields, Cases, casesMeans, addCases, closeCases}
 use Rattle.types.proofs.RecordLaws.{record-answer}
 use Rattle.types.proofs.VariantLaws.{variant-answer}
@@ -41,7 +41,7 @@ pub record-run :
     record-start.Post tt tt s tt →
     Record s is′ u →
     record-end.Post tt (u, tt) r (u, tt) →
-    infoMeans r ≡ recordAnswer (map abiMeans is′)
+    infoAnswerMeans r ≡ recordAnswer (map abiMeans is′)
 record-run {is′ = is′} r begun run ended =
     ended ∙ ap closeFields (record-steps run ∙ ap (λ (f : Fields). addFields f (map abiMeans is′)) begun) ∙ record-answer (map abiMeans is′)
 
@@ -75,5 +75,5 @@ module _ {s u : VariantState} {cs : List (Option CanonicalAbiInfo)} (begun : var
   pub variant-run : (r : VariantAnswer) → variant-end.Post tt (u, tt) r (u, tt) → variantMeans r ≡ variantAnswer (map (lift abiMeans) cs)
   variant-run r ended = ended ∙ closed
 
-  pub variant-info-run : (r : InfoAnswer) → info-end.Post tt (u, tt) r (u, tt) → infoMeans r ≡ infoAlone (variantAnswer (map (lift abiMeans) cs))
+  pub variant-info-run : (r : InfoAnswer) → info-end.Post tt (u, tt) r (u, tt) → infoAnswerMeans r ≡ infoAlone (variantAnswer (map (lift abiMeans) cs))
   variant-info-run r ended = ended ∙ ap infoAlone closed

@@ -19,8 +19,7 @@ use denote.Triple.Clauses.{AtExit}
 use Rattle.canon.specs.Answer.{Leaf, is, no}
 use Rattle.canon.specs.Layout as canon
 use Rattle.canon.specs.Row.{Abi}
-use Rattle.types.specs.declared.refusal.Refusal.{Refusal}
-use Rattle.types.specs.declared.refusal.Refusal.the-variants.{TooLong, Truncated, BadKind, BadRef, BadCount, TooLarge, NoRoom, BadRow}
+use Rattle.types.specs.declared.refusal.Refusal.the-variants.{TooLarge}
 use Rattle.types.specs.declared.round.Rounded.{Rounded}
 use Rattle.types.specs.declared.round.Rounded.the-variants as rounded
 use Rattle.types.specs.declared.flat.FlatCount.{FlatCount}
@@ -30,6 +29,9 @@ use Rattle.types.specs.declared.discriminant.DiscriminantSize.the-varian
 use Rattle.types.specs.declared.discriminant.DiscriminantAnswer.{DiscriminantAnswer}
 use Rattle.types.specs.declared.discriminant.DiscriminantAnswer.the-variants as discriminant
 use Rattle.types.specs.declared.extent.Layout.{Layout}
+use Rattle.types.specs.declared.both.Layouts.{Layouts}
+use Rattle.types.specs.declared.both.Fitted.{Fitted}
+use Rattle.types.specs.declared.both.Fitted.the-variants as fitted
 use Rattle.types.specs.declared.info.CanonicalAbiInfo.{CanonicalAbiInfo}
 use Rattle.types.specs.declared.info.InfoAnswer.{InfoAnswer}
 use Rattle.types.specs.declared.info.InfoAnswer.the-variants as info
@@ -47,8 +49,11 @@ use Rattle.types.specs.Means.{
   bytesOf,
   discriminantMeans,
   layoutMeans,
+  layoutsMeans,
+  extentsOf,
+  fittedMeans,
   abiMeans,
-  infoMeans,
+  infoAnswerMeans,
   nextMeans,
   variantMeans,
 }
@@ -61,13 +66,18 @@ use Rattle.types.proofs.flat.add_flat.Reads as add-flat-reads
 use Rattle.types.proofs.flat.max_flat.Reads as max-flat-reads
 use Rattle.types.proofs.discriminant.DiscriminantSize.from_count.Reads as from-count-reads
 use Rattle.types.proofs.discriminant.DiscriminantSize.byte_size.Reads as byte-size-reads
-use Rattle.types.proofs.extent.Layout.is_good.Reads as layout-good-reads
-use Rattle.types.proofs.extent.Layout.widest.Reads as widest-reads
-use Rattle.types.proofs.extent.Layout.repeat.Reads as layout-repeat-reads
-use Rattle.types.proofs.extent.Extent.start.Reads as extent-start-reads
+use Rattle.types.proofs.extent.Extent.is_large.Reads as is-large-reads
 use Rattle.types.proofs.extent.Extent.member.Reads as member-reads
 use Rattle.types.proofs.extent.Extent.close.Reads as close-reads
-use Rattle.types.proofs.extent.Extent.variant.Reads as extent-variant-reads
+use Rattle.types.proofs.both.Layouts.in_memory.Reads as in-memory-reads
+use Rattle.types.proofs.both.Layouts.is_good.Reads as layouts-good-reads
+use Rattle.types.proofs.both.Layouts.widest.Reads as layouts-widest-reads
+use Rattle.types.proofs.both.Layouts.repeat.Reads as layouts-repeat-reads
+use Rattle.types.proofs.both.Extents.member.Reads as extents-member-reads
+use Rattle.types.proofs.both.Extents.close.Reads as extents-close-reads
+use Rattle.types.proofs.both.Extents.variant.Reads as extents-variant-reads
+use Rattle.types.proofs.both.Extents.fitted.Reads as extents-fitted-reads
+use Rattle.types.proofs.info.CanonicalAbiInfo.layouts.Reads as layouts-reads
 use Rattle.types.proofs.info.CanonicalAbiInfo.is_good.Reads as is-good-reads
 use Rattle.types.proofs.info.CanonicalAbiInfo.record.Reads as record-reads
 use Rattle.types.proofs.info.CanonicalAbiInfo.fixed_length_list.Reads as fixed-length-list-reads
@@ -102,6 +112,9 @@ size-back Size4 = refl
 
 abbrev layoutFrom : canon.Layout → Layout
 layoutFrom f = record { size = f .size; align = f .align }
+
+abbrev layoutsFrom : canon.Both canon.Layout → Layouts
+layoutsFrom b = record { in32 = layoutFrom (b .in32); in64 = layoutFrom (b .in64) }
 
 abbrev infoFrom : Abi → CanonicalAbiInfo
 infoFrom a =
@@ -146,14 +159,28 @@ discriminant-one = told discriminantMeans from back
 layout-one : (r q : Layout) → layoutMeans r ≡ layoutMeans q → r ≡ q
 layout-one = told layoutMeans layoutFrom (λ f. refl)
 
-info-one : (r q : InfoAnswer) → infoMeans r ≡ infoMeans q → r ≡ q
-info-one = told infoMeans from back
+layouts-one : (r q : Layouts) → layoutsMeans r ≡ layoutsMeans q → r ≡ q
+layouts-one = told layoutsMeans layoutsFrom (λ f. refl)
+
+fitted-one : (r q : Fitted) → fittedMeans r ≡ fittedMeans q → r ≡ q
+fitted-one = told fittedMeans from back
+  where
+    from : Leaf (canon.Both canon.Layout) → Fitted
+    from (is b) = fitted.Layouts (layoutsFrom b)
+    from (no n) = fitted.TooLarge
+
+    back : (r : Fitted) → from (fittedMeans r) ≡ r
+    back (fitted.Layouts f) = refl
+    back fitted.TooLarge = refl
+
+info-one : (r q : InfoAnswer) → infoAnswerMeans r ≡ infoAnswerMeans q → r ≡ q
+info-one = told infoAnswerMeans from back
   where
     from : Leaf Abi → InfoAnswer
     from (is a) = info.Info (infoFrom a)
     from (no n) = info.Refused (refusalOf n)
 
-    back : (r : InfoAnswer) → from (infoMeans r) ≡ r
+    back : (r : InfoAnswer) → from (infoAnswerMeans r) ≡ r
     back (info.Info i) = ap info.Info (info-back i)
     back (info.Refused r) = ap info.Refused (refusal-back r)
 
@@ -186,7 +213,7 @@ record-one : (r q : RecordState) → recordMeans r ≡ recordMeans q → r ≡ q
 record-one = told recordMeans from (λ s. rw (count-back (s .flat)))
   where
     from : Fields → RecordState
-    from f = record { in32 = f .extents .in32; in64 = f .extents .in64; flat = countFrom (f .flats); bad = f .bad }
+    from f = record { extents = extentsOf (f .extents); flat = countFrom (f .flats); bad = f .bad }
 
 cases-one : (r q : VariantState) → casesMeans r ≡ casesMeans q → r ≡ q
 cases-one = told casesMeans from (λ s. rw (count-back (s .flat)))
@@ -194,8 +221,7 @@ cases-one = told casesMeans from (λ s. rw (count-back (s .flat)))
     from : Cases → VariantState
     from f =
         record {
-          in32 = layoutFrom (f .payloads .in32);
-          in64 = layoutFrom (f .payloads .in64);
+          layouts = layoutsFrom (f .payloads);
           flat = countFrom (f .flats);
           count = f .count;
           bad = f .bad;
@@ -227,17 +253,8 @@ from-count-unique a r q g h = discriminant-one r q (g ∙ sym h)
 pub byte-size-unique : Single (byte-size-reads.Post tt)
 byte-size-unique a r q g h = g ∙ sym h
 
-pub layout-good-unique : Single (layout-good-reads.Post tt)
-layout-good-unique a r q g h = g ∙ sym h
-
-pub widest-unique : Single (widest-reads.Post tt)
-widest-unique a r q g h = layout-one r q (g ∙ sym h)
-
-pub layout-repeat-unique : Single (layout-repeat-reads.Post tt)
-layout-repeat-unique a r q g h = g ∙ sym h
-
-pub extent-start-unique : Single (extent-start-reads.Post tt)
-extent-start-unique a r q g h = g ∙ sym h
+pub is-large-unique : Single (is-large-reads.Post tt)
+is-large-unique a r q g h = g ∙ sym h
 
 pub member-unique : Single (member-reads.Post tt)
 member-unique a r q g h = g ∙ sym h
@@ -245,8 +262,32 @@ member-unique a r q g h = g ∙ sym h
 pub close-unique : Single (close-reads.Post tt)
 close-unique a r q g h = g ∙ sym h
 
-pub extent-variant-unique : Single (extent-variant-reads.Post tt)
-extent-variant-unique a r q g h = g ∙ sym h
+pub in-memory-unique : Single (in-memory-reads.Post tt)
+in-memory-unique a r q g h = layout-one r q (g ∙ sym h)
+
+pub layouts-good-unique : Single (layouts-good-reads.Post tt)
+layouts-good-unique a r q g h = g ∙ sym h
+
+pub layouts-widest-unique : Single (layouts-widest-reads.Post tt)
+layouts-widest-unique a r q g h = layouts-one r q (g ∙ sym h)
+
+pub layouts-repeat-unique : Single (layouts-repeat-reads.Post tt)
+layouts-repeat-unique a r q g h = g ∙ sym h
+
+pub extents-member-unique : Single (extents-member-reads.Post tt)
+extents-member-unique a r q g h = g ∙ sym h
+
+pub extents-close-unique : Single (extents-close-reads.Post tt)
+extents-close-unique a r q g h = g ∙ sym h
+
+pub extents-variant-unique : Single (extents-variant-reads.Post tt)
+extents-variant-unique a r q g h = g ∙ sym h
+
+pub extents-fitted-unique : Single (extents-fitted-reads.Post tt)
+extents-fitted-unique a r q g h = fitted-one r q (g ∙ sym h)
+
+pub layouts-unique : Single (layouts-reads.Post tt)
+layouts-unique a r q g h = g ∙ sym h
 
 pub is-good-unique : Single (is-good-reads.Post tt)
 is-good-unique a r q g h = g ∙ sym h
@@ -301,4 +342,4 @@ record-static-unique 𝓤 H A mem run P κs fields end r q g h =
     fact-use 𝓤 (Said r) g (λ x. fact-use 𝓤 (Said q) h (λ y. factI 𝓤 (r ≡ q) P (info-one r q (x ∙ sym y))))
   where
     Said : InfoAnswer → Type 0
-    Said a = infoMeans a ≡ recordAnswer (map abiMeans (fields .now))
+    Said a = infoAnswerMeans a ≡ recordAnswer (map abiMeans (fields .now))

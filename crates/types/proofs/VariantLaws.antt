@@ -1,7 +1,7 @@
 -- A variant after any cases is 01's: in each memory the greatest payload after the discriminant, the greatest flat count,
 -- the number of cases as far as it matters, and any bad info.
 use mathlib.Core.Path.{_≡_, refl, sym, ap, _∙_}
-use mathlib.Core.Bool.{Bool, true, false, cond, _||_, not}
+use mathlib.Core.Bool.{Bool, true, false, _||_, not, or-false}
 use mathlib.Core.List.{List, [], _∷_}
 use mathlib.Core.Option.{Option, none, some}
 use Prim.Native.Nat.{ℕ, _+_, _≤_, _<_, max, min}
@@ -10,7 +10,7 @@ use native.Mathlib.Omega.{arith}
 use lib.Dec.{leb, eqb}
 use lib.ListN.{length}
 use borrow.Author.Tests.{lt-leb, leb-true, leb-false, ne-eqb}
-use Rattle.canon.specs.Answer.{Leaf, is, no, badCount, tooLarge, andThen}
+use Rattle.canon.specs.Answer.{badCount}
 use Rattle.canon.specs.Layout.{
   mem32,
   mem64,
@@ -27,11 +27,12 @@ use Rattle.canon.specs.Layout.{
   variantNumbers,
   largestNumber,
 }
-use Rattle.canon.specs.Flat.{greatestFlat}
+use Rattle.canon.specs.Placement.{fourGiB}
+use Rattle.canon.specs.Flat.{greatestFlat, variantCount}
 use Rattle.canon.specs.Row.{Abi, goodAbi}
-use Rattle.canon.specs.Description.{someAbove}
-use Rattle.canon.proofs.Tightest.{Aligned}
-use Rattle.canon.proofs.Alignments.{variant-alignment, payload-agrees}
+use Rattle.canon.proofs.Rounding.{roundUp-least, alignment-pos, alignment-dvd, Alignment, by1, by2, by4, by8}
+use Rattle.canon.proofs.Tightest.{Aligned, greatestAlign-alignment}
+use Rattle.canon.proofs.Alignments.{discriminant-alignment, variant-alignment, payload-agrees}
 use Rattle.canon.proofs.FlatFolds.{greats, greats-greatest}
 use Rattle.canon.proofs.Sizes.{variant-decides}
 use Rattle.types.specs.Leaves.{
@@ -39,20 +40,22 @@ use Rattle.types.specs.Leaves.{
   fitting,
   inEither,
   allGood,
-  layoutsIn,
+  abiLayouts,
   flatsOf,
   discriminantAnswer,
   payloadsOf,
   variantAbi,
   variantAnswer,
 }
-use Rattle.types.specs.declared.extent.VariantExtent.{VariantExtent}
-use Rattle.types.specs.Extents.{reach, widest, variantOf}
+use Rattle.types.specs.Means.{bytesOf}
+use Rattle.types.specs.declared.discriminant.DiscriminantSize.{DiscriminantSize}
+use Rattle.types.specs.declared.discriminant.DiscriminantSize.the-variants.{Size1, Size2, Size4}
+use Rattle.types.specs.Extents.{extentAt, memberOf, widest, variantStep}
 use Rattle.types.specs.States.{Cases, oneMore, noCases, addCase, addCases, sizedCases, closeCases}
-use Rattle.types.proofs.RoundLaws.{rounded-aligned}
-use Rattle.types.proofs.ExtentLaws.{reach-large}
-use Rattle.types.proofs.AnswerLaws.{fitted-fits, discriminant-then}
-use Rattle.types.proofs.RecordLaws.{all-aligned, or-false, one-bad}
+use Rattle.types.proofs.RoundLaws.{rounded-between}
+use Rattle.types.proofs.ExtentLaws.{both-same, reach-is, member-reach, close-reach}
+use Rattle.types.proofs.AnswerLaws.{fitted-answer, discriminant-then}
+use Rattle.types.proofs.RecordLaws.{all-aligned, one-bad}
 
 -- the greatest of payloads
 
@@ -93,21 +96,42 @@ widest-greatest fs = widest-from (record { size = 0; align = 1 }) fs (omega arit
 pub variant-reach :
     (n : ℕ) (fs : List Layout) →
     Aligned fs →
-    variantOf (discriminant n) (greatest fs) ≡ record { «payload_offset» = payloadOffset n fs; extent = reach (variantSize n fs) (variantAlign n fs) }
-unfolding variantOf variantSize
+    variantStep (discriminant n) (greatest fs) ≡ record { start = payloadOffset n fs; extent = extentAt (variantSize n fs) (variantAlign n fs) }
+unfolding variantStep variantSize payloadOffset
 variant-reach n fs w =
-    let a = variant-alignment n fs w in
-    rw (rounded-aligned (discriminant n) a, payload-agrees n fs w, rounded-aligned (payloadOffset n fs + greatestSize fs) a)
+    let a : Alignment (variantAlign n fs) = variant-alignment n fs w in
+    let offset : payloadOffset n fs ≤ 8 = small in
+    let start : min (payloadOffset n fs) fourGiB ≡ payloadOffset n fs = omega arith in
+    let one : max (variantAlign n fs) (variantAlign n fs) ≡ variantAlign n fs = omega arith in
+    rw (
+      ← reach-is (discriminant n) (variantAlign n fs) (omega (arith, most (discriminant-alignment n))),
+      member-reach (discriminant n) (variantAlign n fs) (record { size = greatestSize fs; align = variantAlign n fs }) a,
+      payload-agrees n fs w,
+      start,
+      one,
+      close-reach (payloadOffset n fs + greatestSize fs) (variantAlign n fs) a,
+    )
+  where
+    most : {b : ℕ} → Alignment b → b ≤ 8
+    most by1 = omega arith
+    most by2 = omega arith
+    most by4 = omega arith
+    most by8 = omega arith
 
--- large exactly when the payload's start or end or the size is too large
-pub variant-large :
-    (n : ℕ) (fs : List Layout) →
-    Aligned fs →
-    variantOf (discriminant n) (greatest fs) .extent .large ≡ someAbove largestNumber (variantNumbers n fs)
-variant-large n fs w =
-    ap (λ (v : VariantExtent). v .extent .large) (variant-reach n fs w)
-    ∙ reach-large (variantSize n fs) (variantAlign n fs)
-    ∙ sym (variant-decides largestNumber n fs w)
+    small : payloadOffset n fs ≤ 8
+    small =
+        let a = greatestAlign-alignment fs w in
+        roundUp-least (discriminant n) (greatestAlign fs) 8 (alignment-pos a) (most (discriminant-alignment n)) (alignment-dvd a by8 (most a))
+
+-- a payload starts close behind its discriminant
+pub variant-fits : (s : DiscriminantSize) (f : Layout) → variantStep (bytesOf s) f .start ≤ largestNumber
+unfolding variantStep memberOf
+variant-fits s f = omega (arith, bytes-small s, rounded-between (min (bytesOf s) fourGiB) (max (bytesOf s) (f .align)) .1)
+  where
+    bytes-small : (s : DiscriminantSize) → bytesOf s ≤ 4
+    bytes-small Size1 = omega arith
+    bytes-small Size2 = omega arith
+    bytes-small Size4 = omega arith
 
 -- the number of cases
 
@@ -136,7 +160,7 @@ discriminant-stops n = go (leb n 65536) refl
 after : (s : Cases) (cs : List (Option Abi)) →
     addCases s cs
     ≡ record {
-      payloads = both (λ m. widestOf (within m (s .payloads)) (layoutsIn m (payloadsOf cs)));
+      payloads = both (λ m. widestOf (within m (s .payloads)) (abiLayouts m (payloadsOf cs)));
       flats = greats (s .flats) (flatsOf (payloadsOf cs));
       count = counted (s .count) cs;
       bad = s .bad || not (allGood (payloadsOf cs));
@@ -147,34 +171,27 @@ after s (none ∷ cs) = after (addCase s none) cs
 after s (some i ∷ cs) =
     after (addCase s (some i)) cs
     ∙ ap (λ (b : Bool). record {
-      payloads = both (λ m. widestOf (within m (addCase s (some i) .payloads)) (layoutsIn m (payloadsOf cs)));
+      payloads = both (λ m. widestOf (within m (addCase s (some i) .payloads)) (abiLayouts m (payloadsOf cs)));
       flats = greats (addCase s (some i) .flats) (flatsOf (payloadsOf cs));
       count = counted (oneMore (s .count)) cs;
       bad = b;
     }) (one-bad (s .bad) (goodAbi i) (allGood (payloadsOf cs)))
-
-and-then-fitting : {A B : Type 0} (ns : List ℕ) (a : A) (k : A → B) → andThen (fitting ns a) (λ x. is (k x)) ≡ fitting ns (k a)
-unfolding andThen fitting
-and-then-fitting ns a k = go (someAbove largestNumber ns)
-  where
-    go : (b : Bool) → andThen (cond b (no tooLarge) (is a)) (λ x. is (k x)) ≡ cond b (no tooLarge) (is (k a))
-    go true = refl
-    go false = refl
 
 -- good payloads after the discriminant of n cases
 sized-answer :
     (n k : ℕ) (b : Bool) (is′ : List Abi) →
     allGood is′ ≡ true →
     sizedCases (discriminant n)
-    (record { payloads = both (λ m. greatest (layoutsIn m is′)); flats = greatestFlat (flatsOf is′); count = k; bad = b })
-    ≡ fitting (inEither (λ m. variantNumbers n (layoutsIn m is′))) (variantAbi n is′)
+    (record { payloads = both (λ m. greatest (abiLayouts m is′)); flats = greatestFlat (flatsOf is′); count = k; bad = b })
+    ≡ fitting (inEither (λ m. variantNumbers n (abiLayouts m is′))) (variantAbi n is′)
 unfolding sizedCases
 sized-answer n k b is′ h =
-    rw (variant-reach n (layoutsIn mem32 is′) (all-aligned is′ h mem32), variant-reach n (layoutsIn mem64 is′) (all-aligned is′ h mem64))
-    (ap (λ (l : Leaf Abi). andThen l (λ a. is (record { disc = discriminant n; offsets = both (λ m. payloadOffset n (layoutsIn m is′)); abi = a })))
-    (fitted-fits (λ m. variantNumbers n (layoutsIn m is′)) (λ m. variantLayout n (layoutsIn m is′)) _
-    (λ m. variant-decides largestNumber n (layoutsIn m is′) (all-aligned is′ h m)))
-    ∙ and-then-fitting _ _ _)
+    rw (variant-reach n (abiLayouts mem32 is′) (all-aligned is′ h mem32), variant-reach n (abiLayouts mem64 is′) (all-aligned is′ h mem64))
+    (fitted-answer
+    (λ ls. record { disc = discriminant n; offsets = both (λ m. payloadOffset n (abiLayouts m is′)); abi = record { layouts = ls; flats = variantCount (flatsOf is′) } })
+    (λ m. variantNumbers n (abiLayouts m is′))
+    (λ m. variantLayout n (abiLayouts m is′))
+    (λ m. variant-decides largestNumber n (abiLayouts m is′) (all-aligned is′ h m)))
 
 -- `VariantState` and `VariantInfo::new`: the variant of these cases
 pub variant-answer : (cs : List (Option Abi)) → closeCases (addCases noCases cs) ≡ variantAnswer cs
@@ -184,7 +201,7 @@ variant-answer cs = ap closeCases (after noCases cs) ∙ go (allGood (payloadsOf
     state : Bool → Cases
     state b =
         record {
-          payloads = both (λ m. widestOf (within m (noCases .payloads)) (layoutsIn m (payloadsOf cs)));
+          payloads = both (λ m. widestOf (within m (noCases .payloads)) (abiLayouts m (payloadsOf cs)));
           flats = greats (noCases .flats) (flatsOf (payloadsOf cs));
           count = counted (noCases .count) cs;
           bad = not b;
@@ -194,8 +211,7 @@ variant-answer cs = ap closeCases (after noCases cs) ∙ go (allGood (payloadsOf
     go true h =
         rw (
           h,
-          widest-greatest (layoutsIn mem32 (payloadsOf cs)),
-          widest-greatest (layoutsIn mem64 (payloadsOf cs)),
+          both-same (λ m. widest-greatest (abiLayouts m (payloadsOf cs))),
           greats-greatest (flatsOf (payloadsOf cs)),
           counted-length 0 cs (omega arith),
           zero-add (length cs),

@@ -1,14 +1,14 @@
--- One memory's step, as the code takes it: for every number, and too large an end is remembered.
+-- One memory's step, as the code takes it, for every number. The end stops at 4 GiB, so that too large stays too large.
 -- Over aligned layouts it is canon's exact end (proofs/ExtentLaws).
-use mathlib.Core.Bool.{true, false, cond}
-use Prim.Native.Nat.{ℕ, _+_, _-_, _%_, max}
+use mathlib.Core.Bool.{Bool, cond, _||_}
+use Prim.Native.Nat.{ℕ, _+_, _-_, _%_, max, min}
 use lib.Bits.{bitAnd}
 use lib.Dec.{ltb}
 use Rattle.canon.specs.Answer.{Leaf, is, no, tooLarge}
-use Rattle.canon.specs.Layout.{Layout, largestNumber}
-use Rattle.types.specs.Leaves.{Field}
+use Rattle.canon.specs.Layout.{Both, both, within, Layout, largestNumber}
+use Rattle.canon.specs.Placement.{fourGiB}
 use Rattle.types.specs.declared.extent.Extent.{Extent}
-use Rattle.types.specs.declared.extent.VariantExtent.{VariantExtent}
+use Rattle.types.specs.declared.extent.Step.{Step}
 
 -- the bits that rounding to an alignment clears; of any other number seven at most
 unfoldable pub lowBits : ℕ → ℕ
@@ -18,45 +18,48 @@ lowBits a = (a + 7) % 8
 unfoldable pub rounded : ℕ → ℕ → ℕ
 rounded x a = (x + lowBits a) - bitAnd (x + lowBits a) (lowBits a)
 
-abbrev pub endsAt : ℕ → ℕ → Extent
-endsAt e a = record { end = e; align = a; large = false }
-
-abbrev pub tooFar : ℕ → Extent
-tooFar a = record { end = 0; align = a; large = true }
-
 -- the extent of an exact end
-unfoldable pub reach : ℕ → ℕ → Extent
-reach e a = cond (ltb largestNumber e) (tooFar a) (endsAt e a)
+unfoldable pub extentAt : ℕ → ℕ → Extent
+extentAt e a = record { end = min e fourGiB; align = a }
 
 abbrev pub startExtent : Extent
-startExtent = endsAt 0 1
+startExtent = record { end = 0; align = 1 }
 
-unfoldable pub memberOf : Extent → Layout → Extent
-memberOf x f =
-    cond (x .large)
-    (tooFar (max (x .align) (f .align)))
-    (reach (rounded (x .end) (f .align) + f .size) (max (x .align) (f .align)))
+-- a member at the start s, in an extent of the alignment a
+abbrev pub stepAt : ℕ → ℕ → Layout → Step
+stepAt s a f = record { start = s; extent = extentAt (s + f .size) (max a (f .align)) }
+
+-- one member more, wherever the extent ends
+unfoldable pub memberOf : Extent → Layout → Step
+memberOf x f = stepAt (rounded (min (x .end) fourGiB) (f .align)) (x .align) f
 
 -- one more member of no size
 unfoldable pub closeOf : Extent → Extent
-closeOf x = memberOf x (record { size = 0; align = x .align })
-
--- a field after an end
-unfoldable pub fieldOf : ℕ → Layout → Leaf Field
-fieldOf e f =
-    cond (ltb largestNumber (rounded e (f .align) + f .size))
-    (no tooLarge)
-    (is (record { offset = rounded e (f .align); end = rounded e (f .align) + f .size }))
+closeOf x = memberOf x (record { size = 0; align = x .align }) .extent
 
 -- the greater size and the greater alignment
 abbrev pub widest : Layout → Layout → Layout
 widest f g = record { size = max (f .size) (g .size); align = max (f .align) (g .align) }
 
+abbrev closedStep : Step → Step
+closedStep s = record { start = s .start; extent = closeOf (s .extent) }
+
 -- a discriminant of d bytes, payloads of s bytes and the alignment a of both
-abbrev pub variantAt : ℕ → ℕ → ℕ → VariantExtent
-variantAt d s a = record { «payload_offset» = rounded d a; extent = reach (rounded (rounded d a + s) a) a }
+abbrev variantAt : ℕ → ℕ → ℕ → Step
+variantAt d s a = closedStep (memberOf (record { end = d; align = a }) (record { size = s; align = a }))
 
 -- a discriminant of d bytes and room for the payloads f. 01: "The payload starts at the discriminant size rounded up to the variant's
 -- alignment", "Size is payload offset plus greatest payload, rounded up"
-unfoldable pub variantOf : ℕ → Layout → VariantExtent
-variantOf d f = variantAt d (f .size) (max d (f .align))
+unfoldable pub variantStep : ℕ → Layout → Step
+variantStep d f = variantAt d (f .size) (max d (f .align))
+
+-- refusal 6: "a start, end or size above 4294967295"
+abbrev pub isLarge : Extent → Bool
+isLarge x = ltb largestNumber (x .end)
+
+abbrev pub layoutOf : Extent → Layout
+layoutOf x = record { size = x .end; align = x .align }
+
+-- what closed extents have come to. 01: "in either memory"
+unfoldable pub fittedOf : Both Extent → Leaf (Both Layout)
+fittedOf es = cond (isLarge (es .in32) || isLarge (es .in64)) (no tooLarge) (is (both (λ m. layoutOf (within m es))))

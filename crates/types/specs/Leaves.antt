@@ -6,7 +6,6 @@ use Prim.Native.Nat.{ℕ, _+_}
 use lib.Dec.{leb, eqb}
 use lib.ListN.{length}
 use Rattle.canon.specs.Answer.{Leaf, is, no, badCount, tooLarge, badRow}
-use Rattle.canon.specs.Round.{roundUp}
 use Rattle.canon.specs.Layout.{
   Memory,
   mem32,
@@ -27,6 +26,8 @@ use Rattle.canon.specs.Layout.{
   flagsLayout,
   fixedLayout,
   largestNumber,
+  roundUp,
+  mostFlags,
 }
 use Rattle.canon.specs.Flat.{sumFlat, variantCount, flagsCount, timesFlat}
 use Rattle.canon.specs.Row.{Abi, isAlignment, goodAbi}
@@ -71,19 +72,19 @@ unfoldable pub allGood : List Abi → Bool
 allGood [] = true
 allGood (i ∷ is′) = goodAbi i && allGood is′
 
-abbrev pub layoutsIn : Memory → List Abi → List Layout
-layoutsIn m is′ = map (λ (i : Abi). within m (i .layouts)) is′
+abbrev pub abiLayouts : Memory → List Abi → List Layout
+abiLayouts m is′ = map (λ (i : Abi). within m (i .layouts)) is′
 
 abbrev pub flatsOf : List Abi → List (Option ℕ)
 flatsOf is′ = map (λ (i : Abi). i .flats) is′
 
 -- `record` and `record_static`: "tests all for 8, then 6 in either memory"
 abbrev pub recordAbi : List Abi → Abi
-recordAbi is′ = record { layouts = both (λ m. recordLayout (layoutsIn m is′)); flats = sumFlat (flatsOf is′) }
+recordAbi is′ = record { layouts = both (λ m. recordLayout (abiLayouts m is′)); flats = sumFlat (flatsOf is′) }
 
 unfoldable pub recordAnswer : List Abi → Leaf Abi
 recordAnswer is′ =
-    given (allGood is′) badRow (fitting (inEither (λ m. recordNumbers (layoutsIn m is′))) (recordAbi is′))
+    given (allGood is′) badRow (fitting (inEither (λ m. recordNumbers (abiLayouts m is′))) (recordAbi is′))
 
 -- `DiscriminantSize::from_count`. Refusal 5: "variant or enum with n = 0"
 unfoldable pub discriminantAnswer : ℕ → Leaf ℕ
@@ -106,8 +107,8 @@ abbrev pub variantAbi : ℕ → List Abi → VariantAbi
 variantAbi n is′ =
     record {
       disc = discriminant n;
-      offsets = both (λ m. payloadOffset n (layoutsIn m is′));
-      abi = record { layouts = both (λ m. variantLayout n (layoutsIn m is′)); flats = variantCount (flatsOf is′) };
+      offsets = both (λ m. payloadOffset n (abiLayouts m is′));
+      abi = record { layouts = both (λ m. variantLayout n (abiLayouts m is′)); flats = variantCount (flatsOf is′) };
     }
 
 -- `VariantInfo::new`: "Refusals 8 for a bad info, then 5, then 6"
@@ -116,7 +117,7 @@ variantAnswer cs =
     given (allGood (payloadsOf cs)) badRow
     (given (not (eqb (length cs) 0)) badCount
     (fitting
-    (inEither (λ m. variantNumbers (length cs) (layoutsIn m (payloadsOf cs))))
+    (inEither (λ m. variantNumbers (length cs) (abiLayouts m (payloadsOf cs))))
     (variantAbi (length cs) (payloadsOf cs))))
 
 -- `CanonicalAbiInfo::variant`
@@ -132,7 +133,7 @@ enumAnswer n =
 
 -- `flags`. Refusal 5: "flags above 32"
 unfoldable pub flagsAnswer : ℕ → Leaf Abi
-flagsAnswer n = given (leb n 32) badCount (is (record { layouts = both (λ m. flagsLayout n); flats = flagsCount n }))
+flagsAnswer n = given (leb n mostFlags) badCount (is (record { layouts = both (λ m. flagsLayout n); flats = flagsCount n }))
 
 -- `fixed_length_list`: "size times count, element's alignment, flat product"
 unfoldable pub fixedAnswer : Abi → ℕ → Leaf Abi

@@ -3,6 +3,7 @@ use mathlib.Core.Option.{Option, none, some}
 use Prim.Native.Nat.{ℕ}
 use Rattle.canon.specs.Answer.{Leaf, is, no, tooLong, truncated, badKind, badRef, badCount, tooLarge, noRoom, badRow}
 use Rattle.canon.specs.Layout as canon
+use Rattle.canon.specs.Layout.{mem32, mem64, Both}
 use Rattle.canon.specs.Row.{Abi}
 use Rattle.types.specs.Leaves.{Field, VariantAbi}
 use Rattle.types.specs.declared.refusal.Refusal.{Refusal}
@@ -15,7 +16,16 @@ use Rattle.types.specs.declared.discriminant.DiscriminantSize.{Discrimin
 use Rattle.types.specs.declared.discriminant.DiscriminantSize.the-variants.{Size1, Size2, Size4}
 use Rattle.types.specs.declared.discriminant.DiscriminantAnswer.{DiscriminantAnswer}
 use Rattle.types.specs.declared.discriminant.DiscriminantAnswer.the-variants as discriminant
+use Rattle.types.specs.declared.memory.Memory.{Memory}
+use Rattle.types.specs.declared.memory.Memory.the-variants.{Memory32, Memory64}
 use Rattle.types.specs.declared.extent.Layout.{Layout}
+use Rattle.types.specs.declared.extent.Extent.{Extent}
+use Rattle.types.specs.declared.extent.Step.{Step}
+use Rattle.types.specs.declared.both.Layouts.{Layouts}
+use Rattle.types.specs.declared.both.Extents.{Extents}
+use Rattle.types.specs.declared.both.Steps.{Steps}
+use Rattle.types.specs.declared.both.Fitted.{Fitted}
+use Rattle.types.specs.declared.both.Fitted.the-variants as fitted
 use Rattle.types.specs.declared.info.CanonicalAbiInfo.{CanonicalAbiInfo}
 use Rattle.types.specs.declared.info.InfoAnswer.{InfoAnswer}
 use Rattle.types.specs.declared.info.InfoAnswer.the-variants as info
@@ -53,8 +63,34 @@ abbrev pub discriminantMeans : DiscriminantAnswer → Leaf ℕ
 discriminantMeans (discriminant.Size s) = is (bytesOf s)
 discriminantMeans (discriminant.Refused r) = no (numberOf r)
 
+-- the memory that a parameter names
+abbrev pub memoryOf : Memory → canon.Memory
+memoryOf Memory32 = mem32
+memoryOf Memory64 = mem64
+
 abbrev pub layoutMeans : Layout → canon.Layout
 layoutMeans f = record { size = f .size; align = f .align }
+
+abbrev pub layoutsMeans : Layouts → Both canon.Layout
+layoutsMeans f = record { in32 = layoutMeans (f .in32); in64 = layoutMeans (f .in64) }
+
+abbrev pub extentsMeans : Extents → Both Extent
+extentsMeans x = record { in32 = x .in32; in64 = x .in64 }
+
+abbrev pub extentsOf : Both Extent → Extents
+extentsOf b = record { in32 = b .in32; in64 = b .in64 }
+
+abbrev pub stepsOf : Both Step → Steps
+stepsOf b =
+    record {
+      start32 = b .in32 .start;
+      start64 = b .in64 .start;
+      extents = record { in32 = b .in32 .extent; in64 = b .in64 .extent };
+    }
+
+abbrev pub fittedMeans : Fitted → Leaf (Both canon.Layout)
+fittedMeans (fitted.Layouts f) = is (layoutsMeans f)
+fittedMeans fitted.TooLarge = no tooLarge
 
 abbrev pub abiMeans : CanonicalAbiInfo → Abi
 abiMeans i =
@@ -67,9 +103,9 @@ abiMeans i =
       flats = countMeans (i .«flat_count»);
     }
 
-abbrev pub infoMeans : InfoAnswer → Leaf Abi
-infoMeans (info.Info i) = is (abiMeans i)
-infoMeans (info.Refused r) = no (numberOf r)
+abbrev pub infoAnswerMeans : InfoAnswer → Leaf Abi
+infoAnswerMeans (info.Info i) = is (abiMeans i)
+infoAnswerMeans (info.Refused r) = no (numberOf r)
 
 abbrev pub nextMeans : NextField → Leaf Field
 nextMeans (next.At o e) = is (record { offset = o; end = e })

@@ -1,9 +1,9 @@
 -- The states of a record and of a variant, step by step as the code takes them. proofs/RecordLaws and proofs/VariantLaws carry them to 01's answers.
-use mathlib.Core.Bool.{Bool, false, _||_, cond, not}
+use mathlib.Core.Bool.{Bool, false, _||_, not}
 use mathlib.Core.List.{List, [], _∷_}
 use mathlib.Core.Option.{Option, none, some}
 use Prim.Native.Nat.{ℕ, _+_, min}
-use Rattle.canon.specs.Answer.{Leaf, is, no, tooLarge, badRow, andThen}
+use Rattle.canon.specs.Answer.{Leaf, is, badRow, andThen}
 use Rattle.canon.specs.Layout.{Both, both, within, Layout}
 use Rattle.canon.specs.Flat.{addFlat, maxFlat}
 use Rattle.canon.specs.Row.{Abi, goodAbi}
@@ -11,15 +11,12 @@ use Rattle.types.specs.declared.extent.Extent.{Extent}
 use Rattle.types.specs.declared.record.RecordState.{RecordState}
 use Rattle.types.specs.declared.variant.VariantState.{VariantState}
 use Rattle.types.specs.Leaves.{VariantAbi, given, discriminantAnswer}
-use Rattle.types.specs.Means.{countMeans, layoutMeans}
-use Rattle.types.specs.Extents.{startExtent, memberOf, closeOf, widest, variantOf}
+use Rattle.types.specs.Means.{countMeans, layoutsMeans, extentsMeans}
+use Rattle.types.specs.Extents.{startExtent, memberOf, closeOf, widest, variantStep, fittedOf}
 
 -- the info of what ends so in the two memories
-unfoldable pub fitted : Both Extent → Option ℕ → Leaf Abi
-fitted es c =
-    cond (es .in32 .large || es .in64 .large)
-    (no tooLarge)
-    (is (record { layouts = both (λ m. record { size = within m es .end; align = within m es .align }); flats = c }))
+unfoldable pub fittedAbi : Both Extent → Option ℕ → Leaf Abi
+fittedAbi es c = andThen (fittedOf es) (λ ls. is (record { layouts = ls; flats = c }))
 
 -- A record
 
@@ -29,7 +26,7 @@ pub record Fields : Type 0 where
   pub bad : Bool
 
 abbrev pub recordMeans : RecordState → Fields
-recordMeans s = record { extents = record { in32 = s .in32; in64 = s .in64 }; flats = countMeans (s .flat); bad = s .bad }
+recordMeans s = record { extents = extentsMeans (s .extents); flats = countMeans (s .flat); bad = s .bad }
 
 abbrev pub noFields : Fields
 noFields = record { extents = both (λ m. startExtent); flats = some 0; bad = false }
@@ -37,7 +34,7 @@ noFields = record { extents = both (λ m. startExtent); flats = some 0; bad = fa
 unfoldable pub addField : Fields → Abi → Fields
 addField s i =
     record {
-      extents = both (λ m. memberOf (within m (s .extents)) (within m (i .layouts)));
+      extents = both (λ m. memberOf (within m (s .extents)) (within m (i .layouts)) .extent);
       flats = addFlat (s .flats) (i .flats);
       bad = s .bad || not (goodAbi i);
     }
@@ -48,7 +45,7 @@ addFields s (i ∷ is′) = addFields (addField s i) is′
 
 -- `CanonicalAbiInfo::record`: 8, then 6
 unfoldable pub closeFields : Fields → Leaf Abi
-closeFields s = given (not (s .bad)) badRow (fitted (both (λ m. closeOf (within m (s .extents)))) (s .flats))
+closeFields s = given (not (s .bad)) badRow (fittedAbi (both (λ m. closeOf (within m (s .extents)))) (s .flats))
 
 -- A variant
 
@@ -61,7 +58,7 @@ pub record Cases : Type 0 where
 abbrev pub casesMeans : VariantState → Cases
 casesMeans s =
     record {
-      payloads = record { in32 = layoutMeans (s .in32); in64 = layoutMeans (s .in64) };
+      payloads = layoutsMeans (s .layouts);
       flats = countMeans (s .flat);
       count = s .count;
       bad = s .bad;
@@ -92,8 +89,14 @@ addCases s (c ∷ cs) = addCases (addCase s c) cs
 unfoldable pub sizedCases : ℕ → Cases → Leaf VariantAbi
 sizedCases d s =
     andThen
-    (fitted (both (λ m. variantOf d (within m (s .payloads)) .extent)) (addFlat (some 1) (s .flats)))
-    (λ a. is (record { disc = d; offsets = both (λ m. variantOf d (within m (s .payloads)) .«payload_offset»); abi = a }))
+    (fittedOf (both (λ m. variantStep d (within m (s .payloads)) .extent)))
+    (λ ls.
+    is
+    (record {
+      disc = d;
+      offsets = both (λ m. variantStep d (within m (s .payloads)) .start);
+      abi = record { layouts = ls; flats = addFlat (some 1) (s .flats) };
+    }))
 
 -- `VariantInfo::new`: 8, then 5, then 6
 unfoldable pub closeCases : Cases → Leaf VariantAbi

@@ -1,9 +1,10 @@
-// One memory: members placed one after another, by where the last of them ends and the greatest alignment. Too large an end is remembered.
+// One memory: members placed one after another, by where the last of them ends and the greatest alignment.
 ghost use mathlib.Core.Path.{_≡_};
-ghost use Prim.Native.Nat.{_*_};
+ghost use Prim.Native.Nat.{_*_, min};
+ghost use Rattle.canon.specs.Placement.{fourGiB};
 ghost use Rattle.canon.specs.Row.{goodLayout};
 ghost use Rattle.types.specs.Means.{layoutMeans, bytesOf};
-ghost use Rattle.types.specs.Extents.{startExtent, reach, memberOf, closeOf, variantOf, widest};
+ghost use Rattle.types.specs.Extents.{extentAt, isLarge, memberOf, closeOf, variantStep, widest};
 use crate::discriminant::DiscriminantSize;
 use crate::round::LARGEST;
 use crate::round::is_alignment;
@@ -15,19 +16,28 @@ pub struct Layout {
     pub align: u32,
 }
 
+// The end stops at 4 GiB, which every rounding keeps: too large stays too large.
 pub struct Extent {
-    pub end: u32,
+    pub end: u64,
     pub align: u32,
-    pub large: bool,
 }
 
-pub struct VariantExtent {
-    pub payload_offset: u32,
+// Where a member starts, and the extent with it.
+pub struct Step {
+    pub start: u64,
     pub extent: Extent,
 }
 
+const FOUR_GIB: u64 = 4294967296;
+
+fn stopped(end: u64) -> u64
+    ensures { λ r. ⌜ r ≡ min end fourGiB ⌝ }
+{
+    if end > FOUR_GIB { FOUR_GIB } else { end }
+}
+
 impl Layout {
-    pub fn is_good(self) -> bool
+    pub(crate) fn is_good(self) -> bool
         ensures { λ r. ⌜ r ≡ goodLayout (layoutMeans self) ⌝ }
     {
         if is_alignment(self.align) {
@@ -38,7 +48,7 @@ impl Layout {
     }
 
     // What is as large and as aligned as either: the room for a variant's payloads.
-    pub fn widest(self, other: Layout) -> Layout
+    pub(crate) fn widest(self, other: Layout) -> Layout
         ensures { λ r. ⌜ layoutMeans r ≡ widest (layoutMeans self) (layoutMeans other) ⌝ }
     {
         Layout {
@@ -48,78 +58,70 @@ impl Layout {
     }
 
     // `count` of them one after another.
-    pub fn repeat(self, count: u32) -> Extent
-        ensures { λ r. ⌜ r ≡ reach (self .size * count) (self .align) ⌝ }
+    pub(crate) fn repeat(self, count: u32) -> Extent
+        ensures { λ r. ⌜ r ≡ extentAt (self .size * count) (self .align) ⌝ }
     {
         let end = self.size as u64 * count as u64;
-        Extent::reach(end, self.align)
+        Extent {
+            end: stopped(end),
+            align: self.align,
+        }
     }
 }
 
 impl Extent {
-    pub fn start() -> Extent
-        ensures { λ r. ⌜ r ≡ startExtent ⌝ }
+    pub const EMPTY: Extent = Extent { end: 0, align: 1 };
+
+    pub fn is_large(self) -> bool
+        ensures { λ r. ⌜ r ≡ isLarge self ⌝ }
     {
-        Extent {
-            end: 0,
-            align: 1,
-            large: false,
-        }
+        self.end > LARGEST
     }
 
-    fn reach(end: u64, align: u32) -> Extent
-        ensures { λ r. ⌜ r ≡ reach end align ⌝ }
-    {
-        if end > LARGEST {
-            return Extent {
-                end: 0,
-                align,
-                large: true,
-            };
-        }
-        Extent {
-            end: end as u32,
-            align,
-            large: false,
-        }
-    }
-
-    pub fn member(self, member: Layout) -> Extent
+    // An end that no step gave may be any number, so it is stopped here too.
+    pub fn member(self, member: Layout) -> Step
         ensures { λ r. ⌜ r ≡ memberOf self (layoutMeans member) ⌝ }
     {
-        let align = max(self.align, member.align);
-        if self.large {
-            return Extent {
-                end: 0,
-                align,
-                large: true,
-            };
+        let start = round_up(stopped(self.end), member.align);
+        let end = start + member.size as u64;
+        Step {
+            start,
+            extent: Extent {
+                end: stopped(end),
+                align: max(self.align, member.align),
+            },
         }
-        let end = round_up(self.end, member.align) + member.size as u64;
-        Extent::reach(end, align)
     }
 
     // The end becomes the size.
     pub fn close(self) -> Extent
         ensures { λ r. ⌜ r ≡ closeOf self ⌝ }
     {
-        self.member(Layout {
+        let step = self.member(Layout {
             size: 0,
             align: self.align,
-        })
+        });
+        step.extent
     }
 
     // A discriminant, and room for the payloads at the next place where the whole may be aligned.
-    pub fn variant(size: DiscriminantSize, payload: Layout) -> VariantExtent
-        ensures { λ r. ⌜ r ≡ variantOf (bytesOf size) (layoutMeans payload) ⌝ }
+    pub(crate) fn variant(size: DiscriminantSize, payload: Layout) -> Step
+        ensures { λ r. ⌜ r ≡ variantStep (bytesOf size) (layoutMeans payload) ⌝ }
     {
         let bytes = size.byte_size();
         let align = max(bytes, payload.align);
-        let offset = round_up(bytes, align);
-        let end = offset + payload.size as u64;
-        VariantExtent {
-            payload_offset: offset as u32,
-            extent: Extent::reach(end, align).close(),
+        let discriminant = Extent {
+            end: bytes as u64,
+            align,
+        };
+        let step = discriminant.member(Layout {
+            size: payload.size,
+            align,
+        });
+        let extent = step.extent;
+        Step {
+            start: step.start,
+            extent: extent.close(),
         }
     }
 }

@@ -4,7 +4,7 @@ ghost use Rattle.canon.specs.Flat.{capped, addFlat, maxFlat, timesFlat};
 ghost use Rattle.canon.specs.Row.{goodCount};
 ghost use Rattle.types.specs.Means.{countMeans};
 
-pub const MAX_FLAT_TYPES: u8 = 16;
+pub const MAX_FLAT_TYPES: u32 = 16;
 
 pub enum FlatCount {
     Count(u8),
@@ -16,7 +16,7 @@ impl FlatCount {
         ensures { λ r. ⌜ r ≡ goodCount (countMeans self) ⌝ }
     {
         match self {
-            FlatCount::Count(n) => n <= MAX_FLAT_TYPES,
+            FlatCount::Count(n) => n as u32 <= MAX_FLAT_TYPES,
             FlatCount::None => true,
         }
     }

@@ -2,19 +2,24 @@
 ghost use mathlib.Core.Path.{_≡_};
 ghost use Rattle.canon.specs.Layout.{mem32, mem64};
 ghost use Rattle.canon.specs.Row.{goodAbi};
-ghost use Rattle.types.specs.Means.{countMeans, layoutMeans, abiMeans, infoMeans, nextMeans};
-ghost use Rattle.types.specs.Leaves.{scalarAbi, fixedAnswer, nextField, flagsAnswer, enumAnswer};
-ghost use Rattle.types.specs.Extents.{fieldOf};
-ghost use Rattle.types.specs.States.{fitted};
+ghost use Rattle.canon.proofs.Rounding.{Alignment};
+ghost use Rattle.types.specs.Means.{memoryOf, countMeans, layoutMeans, layoutsMeans, extentsMeans, abiMeans, infoAnswerMeans, nextMeans};
+ghost use Rattle.types.specs.Leaves.{scalarAbi, fixedAnswer, fieldAfter, nextField, flagsAnswer, enumAnswer};
+ghost use Rattle.types.specs.States.{fittedAbi};
+use crate::both::Extents;
+use crate::both::Fitted;
+use crate::both::Layouts;
 use crate::discriminant::DiscriminantAnswer;
 use crate::discriminant::DiscriminantSize;
 use crate::extent::Extent;
 use crate::extent::Layout;
 use crate::flat::FlatCount;
 use crate::flat::times_flat;
+use crate::memory::Memory;
 use crate::refusal::Refusal;
-use crate::round::LARGEST;
-use crate::round::round_up;
+
+// The most labels that flags may have.
+pub const MAX_FLAGS: u32 = 32;
 
 pub struct CanonicalAbiInfo {
     pub size32: u32,
@@ -99,21 +104,30 @@ impl CanonicalAbiInfo {
         flat_count: FlatCount::Count(2),
     };
 
-    pub(crate) fn layout32(self) -> Layout
-        ensures { λ r. ⌜ r ≡ record { size = self .size32; align = self .align32 } ⌝ }
+    pub fn layouts(self) -> Layouts
+        ensures { λ r. ⌜ r ≡ record { in32 = record { size = self .size32; align = self .align32 }; in64 = record { size = self .size64; align = self .align64 } } ⌝ }
     {
-        Layout {
-            size: self.size32,
-            align: self.align32,
+        Layouts {
+            in32: Layout {
+                size: self.size32,
+                align: self.align32,
+            },
+            in64: Layout {
+                size: self.size64,
+                align: self.align64,
+            },
         }
     }
 
-    pub(crate) fn layout64(self) -> Layout
-        ensures { λ r. ⌜ r ≡ record { size = self .size64; align = self .align64 } ⌝ }
+    pub(crate) fn of(layouts: Layouts, flat: FlatCount) -> CanonicalAbiInfo
+        ensures { λ r. ⌜ abiMeans r ≡ record { layouts = layoutsMeans layouts; flats = countMeans flat } ⌝ }
     {
-        Layout {
-            size: self.size64,
-            align: self.align64,
+        CanonicalAbiInfo {
+            size32: layouts.in32.size,
+            align32: layouts.in32.align,
+            size64: layouts.in64.size,
+            align64: layouts.in64.align,
+            flat_count: flat,
         }
     }
 
@@ -122,43 +136,29 @@ impl CanonicalAbiInfo {
         ensures { λ r. ⌜ r ≡ goodAbi (abiMeans self) ⌝ }
     {
         let flat = self.flat_count;
-        if self.layout32().is_good() {
-            if self.layout64().is_good() {
-                return flat.is_good();
-            }
+        if self.layouts().is_good() {
+            flat.is_good()
+        } else {
+            false
         }
-        false
     }
 
     // The info of what ends so in the two memories.
-    pub(crate) fn fitted(in32: Extent, in64: Extent, flat: FlatCount) -> InfoAnswer
-        ensures { λ r. ⌜ infoMeans r ≡ fitted (record { in32 = in32; in64 = in64 }) (countMeans flat) ⌝ }
+    pub(crate) fn fitted(extents: Extents, flat: FlatCount) -> InfoAnswer
+        ensures { λ r. ⌜ infoAnswerMeans r ≡ fittedAbi (extentsMeans extents) (countMeans flat) ⌝ }
     {
-        if in32.large {
-            return InfoAnswer::Refused(Refusal::TooLarge);
+        match extents.fitted() {
+            Fitted::Layouts(layouts) => InfoAnswer::Info(CanonicalAbiInfo::of(layouts, flat)),
+            Fitted::TooLarge => InfoAnswer::Refused(Refusal::TooLarge),
         }
-        if in64.large {
-            return InfoAnswer::Refused(Refusal::TooLarge);
-        }
-        InfoAnswer::Info(CanonicalAbiInfo {
-            size32: in32.end,
-            align32: in32.align,
-            size64: in64.end,
-            align64: in64.align,
-            flat_count: flat,
-        })
     }
 
     pub fn fixed_length_list(self, count: u32) -> InfoAnswer
-        ensures { λ r. ⌜ infoMeans r ≡ fixedAnswer (abiMeans self) count ⌝ }
+        ensures { λ r. ⌜ infoAnswerMeans r ≡ fixedAnswer (abiMeans self) count ⌝ }
     {
         let flat = self.flat_count;
         if self.is_good() {
-            CanonicalAbiInfo::fitted(
-                self.layout32().repeat(count),
-                self.layout64().repeat(count),
-                times_flat(flat, count),
-            )
+            CanonicalAbiInfo::fitted(self.layouts().repeat(count), times_flat(flat, count))
         } else {
             InfoAnswer::Refused(Refusal::BadRow)
         }
@@ -167,27 +167,29 @@ impl CanonicalAbiInfo {
     pub fn next_field32(self, offset: u32) -> NextField
         ensures { λ r. ⌜ nextMeans r ≡ nextField mem32 (abiMeans self) offset ⌝ }
     {
-        if self.is_good() {
-            field_after(offset, self.layout32())
-        } else {
-            NextField::Refused(Refusal::BadRow)
-        }
+        self.next_field(Memory::Memory32, offset)
     }
 
     pub fn next_field64(self, offset: u32) -> NextField
         ensures { λ r. ⌜ nextMeans r ≡ nextField mem64 (abiMeans self) offset ⌝ }
     {
+        self.next_field(Memory::Memory64, offset)
+    }
+
+    fn next_field(self, memory: Memory, offset: u32) -> NextField
+        ensures { λ r. ⌜ nextMeans r ≡ nextField (memoryOf memory) (abiMeans self) offset ⌝ }
+    {
         if self.is_good() {
-            field_after(offset, self.layout64())
+            field_after(offset, self.layouts().in_memory(memory))
         } else {
             NextField::Refused(Refusal::BadRow)
         }
     }
 
     pub fn flags(count: u32) -> InfoAnswer
-        ensures { λ r. ⌜ infoMeans r ≡ flagsAnswer count ⌝ }
+        ensures { λ r. ⌜ infoAnswerMeans r ≡ flagsAnswer count ⌝ }
     {
-        if count > 32 {
+        if count > MAX_FLAGS {
             return InfoAnswer::Refused(Refusal::BadCount);
         }
         if count == 0 {
@@ -203,7 +205,7 @@ impl CanonicalAbiInfo {
     }
 
     pub fn enum_(cases: u32) -> InfoAnswer
-        ensures { λ r. ⌜ infoMeans r ≡ enumAnswer cases ⌝ }
+        ensures { λ r. ⌜ infoAnswerMeans r ≡ enumAnswer cases ⌝ }
     {
         match DiscriminantSize::from_count(cases) {
             DiscriminantAnswer::Size(size) => {
@@ -216,15 +218,20 @@ impl CanonicalAbiInfo {
 
 // A field after an end, in one memory.
 fn field_after(end: u32, field: Layout) -> NextField
-    ensures { λ r. ⌜ nextMeans r ≡ fieldOf end (layoutMeans field) ⌝ }
+    requires { ⌜ Alignment (field .align) ⌝ }
+    ensures { λ r. ⌜ nextMeans r ≡ fieldAfter end (layoutMeans field) ⌝ }
 {
-    let start = round_up(end, field.align);
-    let stop = start + field.size as u64;
-    if stop > LARGEST {
+    let before = Extent {
+        end: end as u64,
+        align: 1,
+    };
+    let step = before.member(field);
+    let extent = step.extent;
+    if extent.is_large() {
         return NextField::Refused(Refusal::TooLarge);
     }
     NextField::At {
-        offset: start as u32,
-        end: stop as u32,
+        offset: step.start as u32,
+        end: extent.end as u32,
     }
 }

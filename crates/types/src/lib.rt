@@ -1,25 +1,33 @@
-// The leaves of layout: refusals, rounding, flat counts, one memory's step, and the info of a type in both memories.
+// The leaves of layout: refusals, rounding, flat counts, the step in one memory and in both, and the info of a type.
+mod both;
 mod discriminant;
 mod extent;
 mod flat;
 mod info;
+mod memory;
 mod record;
 mod refusal;
 mod round;
 mod variant;
 
+pub use both::Extents;
+pub use both::Fitted;
+pub use both::Layouts;
+pub use both::Steps;
 pub use discriminant::DiscriminantAnswer;
 pub use discriminant::DiscriminantSize;
 pub use extent::Extent;
 pub use extent::Layout;
-pub use extent::VariantExtent;
+pub use extent::Step;
 pub use flat::FlatCount;
 pub use flat::MAX_FLAT_TYPES;
 pub use flat::add_flat;
 pub use flat::max_flat;
 pub use info::CanonicalAbiInfo;
 pub use info::InfoAnswer;
+pub use info::MAX_FLAGS;
 pub use info::NextField;
+pub use memory::Memory;
 pub use record::RecordState;
 pub use refusal::Refusal;
 pub use round::Rounded;

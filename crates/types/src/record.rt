@@ -2,9 +2,9 @@
 ghost use mathlib.Core.Path.{_≡_};
 ghost use mathlib.Core.List.{map};
 ghost use Rattle.types.specs.Leaves.{recordAnswer};
-ghost use Rattle.types.specs.Means.{abiMeans, infoMeans};
+ghost use Rattle.types.specs.Means.{abiMeans, infoAnswerMeans};
 ghost use Rattle.types.specs.States.{recordMeans, noFields, addField, closeFields};
-use crate::extent::Extent;
+use crate::both::Extents;
 use crate::flat::FlatCount;
 use crate::flat::add_flat;
 use crate::info::CanonicalAbiInfo;
@@ -12,8 +12,7 @@ use crate::info::InfoAnswer;
 use crate::refusal::Refusal;
 
 pub struct RecordState {
-    in32: Extent,
-    in64: Extent,
+    extents: Extents,
     flat: FlatCount,
     bad: bool,
 }
@@ -23,8 +22,7 @@ impl RecordState {
         ensures { λ r. ⌜ recordMeans r ≡ noFields ⌝ }
     {
         RecordState {
-            in32: Extent::start(),
-            in64: Extent::start(),
+            extents: Extents::EMPTY,
             flat: FlatCount::Count(0),
             bad: false,
         }
@@ -33,13 +31,13 @@ impl RecordState {
     pub fn field(self, info: CanonicalAbiInfo) -> RecordState
         ensures { λ r. ⌜ recordMeans r ≡ addField (recordMeans self) (abiMeans info) ⌝ }
     {
-        let in32 = self.in32;
-        let in64 = self.in64;
+        let reached = self.extents;
         let flat = self.flat;
         let count = info.flat_count;
+        let steps = reached.member(info.layouts());
+        let extents = steps.extents;
         RecordState {
-            in32: in32.member(info.layout32()),
-            in64: in64.member(info.layout64()),
+            extents,
             flat: add_flat(flat, count),
             bad: self.bad | !info.is_good(),
         }
@@ -48,20 +46,19 @@ impl RecordState {
 
 impl CanonicalAbiInfo {
     pub fn record(fields: RecordState) -> InfoAnswer
-        ensures { λ r. ⌜ infoMeans r ≡ closeFields (recordMeans fields) ⌝ }
+        ensures { λ r. ⌜ infoAnswerMeans r ≡ closeFields (recordMeans fields) ⌝ }
     {
         if fields.bad {
             return InfoAnswer::Refused(Refusal::BadRow);
         }
-        let in32 = fields.in32;
-        let in64 = fields.in64;
+        let extents = fields.extents;
         let flat = fields.flat;
-        CanonicalAbiInfo::fitted(in32.close(), in64.close(), flat)
+        CanonicalAbiInfo::fitted(extents.close(), flat)
     }
 
     // The same over infos that are lent.
     pub fn record_static(fields: &[CanonicalAbiInfo]) -> InfoAnswer
-        ensures { λ r. ⌜ infoMeans r ≡ recordAnswer (map abiMeans (now (fields .entry))) ⌝ }
+        ensures { λ r. ⌜ infoAnswerMeans r ≡ recordAnswer (map abiMeans (now (fields .entry))) ⌝ }
     {
         let mut state = RecordState::start();
         let mut i: usize = 0;

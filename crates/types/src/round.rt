@@ -1,6 +1,7 @@
 // Rounding up to an alignment, and the greater of two numbers.
 ghost use mathlib.Core.Path.{_≡_};
-ghost use Prim.Native.Nat.{max};
+ghost use Prim.Native.Nat.{_≤_, max};
+ghost use Rattle.canon.specs.Placement.{fourGiB};
 ghost use Rattle.canon.specs.Row.{isAlignment};
 ghost use Rattle.types.specs.Means.{roundedMeans};
 ghost use Rattle.types.specs.Leaves.{alignTo};
@@ -34,11 +35,12 @@ fn low_bits(a: u32) -> u64
 }
 
 // The mask of the Rust, in 64 bits, where the sum cannot wrap.
-pub(crate) fn round_up(a: u32, b: u32) -> u64
+pub(crate) fn round_up(a: u64, b: u32) -> u64
+    requires { ⌜ a ≤ fourGiB ⌝ }
     ensures { λ r. ⌜ r ≡ rounded a b ⌝ }
 {
     let low = low_bits(b);
-    let sum = a as u64 + low;
+    let sum = a + low;
     sum - (sum & low)
 }
 
@@ -46,7 +48,7 @@ pub fn align_to(a: u32, b: u32) -> Rounded
     ensures { λ r. ⌜ roundedMeans r ≡ alignTo a b ⌝ }
 {
     if is_alignment(b) {
-        let v = round_up(a, b);
+        let v = round_up(a as u64, b);
         if v <= LARGEST {
             Rounded::Value(v as u32)
         } else {

@@ -2,12 +2,13 @@
 ghost use mathlib.Core.Path.{_≡_};
 ghost use mathlib.Core.Option.{none, some};
 ghost use Rattle.types.specs.Leaves.{infoAlone};
-ghost use Rattle.types.specs.Means.{bytesOf, abiMeans, infoMeans, variantMeans};
+ghost use Rattle.types.specs.Means.{bytesOf, abiMeans, infoAnswerMeans, variantMeans};
 ghost use Rattle.types.specs.States.{casesMeans, oneMore, noCases, addCase, sizedCases, closeCases};
+use crate::both::Extents;
+use crate::both::Fitted;
+use crate::both::Layouts;
 use crate::discriminant::DiscriminantAnswer;
 use crate::discriminant::DiscriminantSize;
-use crate::extent::Extent;
-use crate::extent::Layout;
 use crate::flat::FlatCount;
 use crate::flat::add_flat;
 use crate::flat::max_flat;
@@ -19,8 +20,7 @@ use crate::refusal::Refusal;
 const ENOUGH: u32 = 65537;
 
 pub struct VariantState {
-    in32: Layout,
-    in64: Layout,
+    layouts: Layouts,
     flat: FlatCount,
     count: u32,
     bad: bool,
@@ -48,8 +48,7 @@ impl VariantState {
         ensures { λ r. ⌜ casesMeans r ≡ noCases ⌝ }
     {
         VariantState {
-            in32: Layout { size: 0, align: 1 },
-            in64: Layout { size: 0, align: 1 },
+            layouts: Layouts::EMPTY,
             flat: FlatCount::Count(0),
             count: 0,
             bad: false,
@@ -60,12 +59,10 @@ impl VariantState {
     pub fn bare(self) -> VariantState
         ensures { λ r. ⌜ casesMeans r ≡ addCase (casesMeans self) none ⌝ }
     {
-        let in32 = self.in32;
-        let in64 = self.in64;
+        let layouts = self.layouts;
         let flat = self.flat;
         VariantState {
-            in32,
-            in64,
+            layouts,
             flat,
             count: one_more(self.count),
             bad: self.bad,
@@ -76,13 +73,11 @@ impl VariantState {
     pub fn payload(self, info: CanonicalAbiInfo) -> VariantState
         ensures { λ r. ⌜ casesMeans r ≡ addCase (casesMeans self) (some (abiMeans info)) ⌝ }
     {
-        let in32 = self.in32;
-        let in64 = self.in64;
+        let layouts = self.layouts;
         let flat = self.flat;
         let count = info.flat_count;
         VariantState {
-            in32: in32.widest(info.layout32()),
-            in64: in64.widest(info.layout64()),
+            layouts: layouts.widest(info.layouts()),
             flat: max_flat(flat, count),
             count: one_more(self.count),
             bad: self.bad | !info.is_good(),
@@ -107,30 +102,28 @@ impl VariantInfo {
     fn sized(size: DiscriminantSize, cases: VariantState) -> VariantAnswer
         ensures { λ r. ⌜ variantMeans r ≡ sizedCases (bytesOf size) (casesMeans cases) ⌝ }
     {
-        let payload32 = cases.in32;
-        let payload64 = cases.in64;
+        let layouts = cases.layouts;
         let flat = cases.flat;
-        let in32 = Extent::variant(size, payload32);
-        let in64 = Extent::variant(size, payload64);
-        let whole32 = in32.extent;
-        let whole64 = in64.extent;
-        match CanonicalAbiInfo::fitted(whole32, whole64, add_flat(FlatCount::Count(1), flat)) {
-            InfoAnswer::Info(info) => VariantAnswer::Variant(
-                VariantInfo {
+        let steps = Extents::variant(size, layouts);
+        let extents = steps.extents;
+        match extents.fitted() {
+            Fitted::Layouts(whole) => {
+                let variant = VariantInfo {
                     size,
-                    payload_offset32: in32.payload_offset,
-                    payload_offset64: in64.payload_offset,
-                },
-                info,
-            ),
-            InfoAnswer::Refused(why) => VariantAnswer::Refused(why),
+                    payload_offset32: steps.start32 as u32,
+                    payload_offset64: steps.start64 as u32,
+                };
+                let count = add_flat(FlatCount::Count(1), flat);
+                VariantAnswer::Variant(variant, CanonicalAbiInfo::of(whole, count))
+            }
+            Fitted::TooLarge => VariantAnswer::Refused(Refusal::TooLarge),
         }
     }
 }
 
 impl CanonicalAbiInfo {
     pub fn variant(cases: VariantState) -> InfoAnswer
-        ensures { λ r. ⌜ infoMeans r ≡ infoAlone (closeCases (casesMeans cases)) ⌝ }
+        ensures { λ r. ⌜ infoAnswerMeans r ≡ infoAlone (closeCases (casesMeans cases)) ⌝ }
     {
         match VariantInfo::new(cases) {
             VariantAnswer::Variant(_, info) => InfoAnswer::Info(info),

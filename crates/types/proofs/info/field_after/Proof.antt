@@ -1,35 +1,57 @@
--- The test picks the case.
+-- The field is a member of an extent that begins at the end.
+use mathlib.Core.Path.{_≡_, sym, _∙_}
+use Prim.Native.Nat.{_+_, _≤_}
 use native.Mathlib.Omega.{arith}
-use borrow.Author.Tests.{lt-ltb, le-ltb}
-use Rattle.types.specs.Extents.{fieldOf}
-use Rattle.types.proofs.RoundLaws.{rounded-between}
+use borrow.Author.Tests.{ltb-false}
+use Rattle.canon.specs.Layout.{largestNumber}
+use Rattle.types.specs.Means.{layoutMeans}
+use Rattle.types.proofs.ExtentLaws.{member-fits}
+use Rattle.types.proofs.AnswerLaws.{field-step}
 use borrow.Author.Needs.{needs}
 use Rattle.types.proofs.info.field_after.Statement.{statement}
 use Rattle.types.proofs.info.field_after.Tie as tie
 
-round-up-requires : tie.Need-round-up-requires
-round-up-requires c κs = search needs
+-- what the test says of the end, and so of the start
+fits : (c : tie.Else1) → c .before .before .before .member .result .extent .end ≤ largestNumber
+fits c = ltb-false largestNumber (c .before .before .before .member .result .extent .end) (sym (c .before .is-large .ensures) ∙ c .if1 .left)
 
-cast-stop : tie.Need-cast-stop
-cast-stop c = search needs
+starts : (c : tie.Else1) → c .before .before .before .member .result .start + c .before .before .before .before .args .field .size ≡ c .before .before .before .member .result .extent .end
+starts c =
+    let m = c .before .before .before .member in
+    rw (m .ensures) (member-fits _ (layoutMeans (c .before .before .before .before .args .field)) (rw (m .ensures) at (fits c)))
 
-add-stop : tie.Need-add-stop
-add-stop c = omega (arith, rounded-between (c .before .before .args .end) (c .before .before .args .field .align))
+member-requires : tie.Need-member-requires
+member-requires c κs = search needs
+
+is-large-requires : tie.Need-is-large-requires
+is-large-requires c κs = search needs
 
 returns : tie.Need-returns
-unfolding fieldOf
-returns c = simp (← c .before .before .round-up .ensures, lt-ltb _ _ (c .if1 .taken))
-
-cast-t8 : tie.Need-cast-t8
-cast-t8 c = search needs
+returns c =
+    let a = c .before .before .before .before .args in
+    simp (
+      field-step (a .end) (layoutMeans (a .field)) (c .before .before .before .before .pre) (omega arith),
+      ← c .before .before .before .member .ensures,
+      ← c .before .is-large .ensures,
+      c .if1 .taken,
+    )
 
 cast-t9 : tie.Need-cast-t9
-cast-t9 c = search needs
+cast-t9 c = omega (arith, fits (c .before), starts (c .before))
+
+cast-t10 : tie.Need-cast-t10
+cast-t10 c = omega (arith, fits (c .before .before))
 
 returns-2 : tie.Need-returns-2
-unfolding fieldOf
-returns-2 c = simp (← c .before .before .round-up .ensures, le-ltb _ _ (c .if1 .left))
+returns-2 c =
+    let a = c .before .before .before .before .before .before .args in
+    simp (
+      field-step (a .end) (layoutMeans (a .field)) (c .before .before .before .before .before .before .pre) (omega arith),
+      ← c .before .before .before .before .before .member .ensures,
+      ← c .before .before .before .is-large .ensures,
+      c .before .before .if1 .left,
+    )
 
 pub field-after-spec : {M : Type 1} → statement M
 field-after-spec =
-    tie.close (tie.spec round-up-requires cast-stop add-stop returns cast-t8 cast-t9 returns-2)
+    tie.close (tie.spec member-requires is-large-requires returns cast-t9 cast-t10 returns-2)

@@ -1,16 +1,16 @@
 -- Each refusal by the test that leads to it.
 use mathlib.Core.Path.{sym, _∙_}
 use borrow.Author.Tests.{le-ltb, lt-ltb}
-use Rattle.canon.specs.Round.{Alignment}
 use Rattle.types.specs.Leaves.{given, fitting, alignTo}
-use Rattle.types.proofs.RoundLaws.{alignment-is, rounded-aligned}
+use Rattle.types.proofs.RoundLaws.{rounded-aligned}
 use borrow.Author.Needs.{needs}
 use Rattle.types.proofs.round.align_to.Statement.{statement}
+use Rattle.canon.proofs.Rounding.{Alignment, alignment-tested}
 use Rattle.types.proofs.round.align_to.Tie as tie
 
 -- what the test says
 aligned : (c : tie.Then1) → Alignment (c .before .before .args .b)
-aligned c = alignment-is _ (sym (c .before .is-alignment .ensures) ∙ c .if1 .taken)
+aligned c = alignment-tested _ (sym (c .before .is-alignment .ensures) ∙ c .if1 .taken)
 
 is-alignment-requires : tie.Need-is-alignment-requires
 is-alignment-requires c κs = search needs
@@ -18,8 +18,8 @@ is-alignment-requires c κs = search needs
 round-up-requires : tie.Need-round-up-requires
 round-up-requires c κs = search needs
 
-cast-t8 : tie.Need-cast-t8
-cast-t8 c = search needs
+cast-t9 : tie.Need-cast-t9
+cast-t9 c = search needs
 
 returns : tie.Need-returns
 unfolding alignTo given fitting
@@ -50,4 +50,4 @@ returns-3 c = simp (← c .before .is-alignment .ensures, c .if1 .left)
 pub align-to-spec : {M : Type 1} → statement M
 align-to-spec =
     tie.close
-    (tie.spec is-alignment-requires round-up-requires cast-t8 returns returns-2 returns-3)
+    (tie.spec is-alignment-requires round-up-requires cast-t9 returns returns-2 returns-3)

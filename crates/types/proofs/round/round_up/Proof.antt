@@ -1,3 +1,4 @@
+-- The sum stays below 2^33, so that nothing wraps.
 use native.Mathlib.Omega.{arith}
 use lib.Bits.{and-le-l}
 use Rattle.types.specs.Extents.{rounded}

@@ -1,53 +1,21 @@
--- In each memory one list behind the other.
-use native.Mathlib.Omega.{arith}
+-- The words of both memories are appended as one.
+use mathlib.Core.Path.{ap₂, _∙_}
+use Rattle.flat_types.specs.Places.{appendTo}
 use borrow.Author.Needs.{needs}
-use Rattle.flat_types.specs.Lists.{wordsIn}
-use Rattle.flat_types.proofs.Listing.{holds-by, holds-none, append-none, append-is}
 use Rattle.flat_types.proofs.both.FlatTypes.append.Statement.{statement}
 use Rattle.flat_types.proofs.both.FlatTypes.append.Tie as tie
 
-cast-sum : tie.Need-cast-sum
-cast-sum c = search needs
+list-requires : tie.Need-list-requires
+list-requires c κs = search needs
 
-cast-sum-2 : tie.Need-cast-sum-2
-cast-sum-2 c = search needs
+list-requires-2 : tie.Need-list-requires-2
+list-requires-2 c κs = search needs
 
-add-sum : tie.Need-add-sum
-add-sum c = search needs
-
-cast-if1 : tie.Need-cast-if1
-cast-if1 c = search needs
+append-requires : tie.Need-append-requires
+append-requires c κs = search needs
 
 returns : tie.Need-returns
-returns c = holds-none _ (λ m. append-none (wordsIn m (c .before .args .self)) (wordsIn m (c .before .args .next)) (omega arith))
-
-cast-count : tie.Need-cast-count
-cast-count c = search needs
-
-append-word-requires : tie.Need-append-word-requires
-append-word-requires c κs = search needs
-
-append-word-requires-2 : tie.Need-append-word-requires-2
-append-word-requires-2 c κs = search needs
-
-returns-2 : tie.Need-returns-2
-returns-2 c =
-    let s = c .before .before in
-    holds-by _ _
-    (λ m w. append-is (wordsIn m (s .before .args .self)) (wordsIn m (s .before .args .next)) w (s .if1 .left))
-    (c .before .append-word .ensures)
-    (c .append-word2 .ensures)
+returns c = c .append .ensures ∙ ap₂ (appendTo 16) (c .before .before .list .ensures) (c .before .list2 .ensures)
 
 pub append-spec : {M : Type 1} → statement M
-append-spec =
-    tie.close
-    (tie.spec
-    cast-sum
-    cast-sum-2
-    add-sum
-    cast-if1
-    returns
-    cast-count
-    append-word-requires
-    append-word-requires-2
-    returns-2)
+append-spec = tie.close (tie.spec list-requires list-requires-2 append-requires returns)

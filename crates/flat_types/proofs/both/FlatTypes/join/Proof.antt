@@ -1,8 +1,9 @@
--- In each memory the two lists joined.
+-- As many types as the longer list has.
 use native.Mathlib.Omega.{arith}
+use borrow.Author.Tests.{le-leb, lt-leb}
+use Prim.Native.Nat.{max}
+use Rattle.flat_types.specs.Places.{joined}
 use borrow.Author.Needs.{needs}
-use Rattle.flat_types.specs.Lists.{wordsIn}
-use Rattle.flat_types.proofs.Listing.{holds-by, holds-none, join-none, join-is}
 use Rattle.flat_types.proofs.both.FlatTypes.join.Statement.{statement}
 use Rattle.flat_types.proofs.both.FlatTypes.join.Tie as tie
 
@@ -10,26 +11,25 @@ max-requires : tie.Need-max-requires
 max-requires c κs = search needs
 
 returns : tie.Need-returns
+unfolding joined
 returns c =
     let a = c .before .before .args in
     let e = c .before .max .ensures in
-    holds-none _ (λ m. join-none (wordsIn m (a .self)) (wordsIn m (a .next)) (omega arith))
+    rw (lt-leb (max (a .self .count) (a .next .count)) 16 (omega arith))
 
-join-word-requires : tie.Need-join-word-requires
-join-word-requires c κs = search needs
+min-requires : tie.Need-min-requires
+min-requires c κs = search needs
 
-join-word-requires-2 : tie.Need-join-word-requires-2
-join-word-requires-2 c κs = search needs
+join-words-requires : tie.Need-join-words-requires
+join-words-requires c κs = search needs
 
 returns-2 : tie.Need-returns-2
+unfolding joined
 returns-2 c =
-    let s = c .before .before in
-    let a = s .before .before .args in
-    holds-by _ _
-    (λ m w. join-is (wordsIn m (a .self)) (wordsIn m (a .next)) _ w (s .before .max .ensures) (s .if1 .left))
-    (c .before .join-word .ensures)
-    (c .join-word2 .ensures)
+    let s = c .before .before .before in
+    let a = s .before .args in
+    let e = s .max .ensures in
+    rw (le-leb (max (a .self .count) (a .next .count)) 16 (omega arith), c .join-words .ensures, c .before .min .ensures, e)
 
 pub join-spec : {M : Type 1} → statement M
-join-spec =
-    tie.close (tie.spec max-requires returns join-word-requires join-word-requires-2 returns-2)
+join-spec = tie.close (tie.spec max-requires returns min-requires join-words-requires returns-2)

@@ -1,18 +1,27 @@
 -- The places of the packed scalars one by one, String by itself, nothing past the last.
-use mathlib.Core.Path.{refl}
+use mathlib.Core.Path.{_≡_, refl}
+use Prim.Native.Nat.{_*_, _/_, _^_}
 use native.Mathlib.Omega.{arith}
+use lib.Bits.{bitAnd}
 use lib.ListN.{getElem?}
-use borrow.Author.Needs.{needs}
 use Rattle.canon.specs.Answer.{lift}
-use Rattle.canon.specs.Description.{plain}
 use Rattle.canon.specs.Flat.{flatten}
-use Rattle.canon.specs.Layout.{mem32, mem64}
+use Rattle.canon.specs.Layout.{Memory, mem32, mem64, within}
 use Rattle.canon.specs.Pack.{pack}
-use Rattle.flat_types.specs.Lists.{packedTo}
+use Rattle.canon.specs.Types.{plain}
+use Rattle.flat_types.specs.Lists.{packedTo, packed, halves}
+use Rattle.flat_types.proofs.Halves.{twice-is}
 use Rattle.flat_types.proofs.Listing.{holds, holds-none}
-use Rattle.flat_types.proofs.References.{scalar, past, two-bits}
+use Rattle.flat_types.proofs.References.{scalar, past, code-small, code-fits}
+use borrow.Author.Needs.{needs}
 use Rattle.flat_types.proofs.both.FlatTypes.plain.Statement.{statement}
 use Rattle.flat_types.proofs.both.FlatTypes.plain.Tie as tie
+
+-- the constant's words, in each memory
+pair : (m : Memory) → record { number = 2; types = within m (halves 21474836480) } ≡ packed (lift (flatten m) (getElem? plain 12))
+unfolding packedTo pack flatten
+pair mem32 = refl
+pair mem64 = refl
 
 returns : tie.Need-returns
 unfolding packedTo
@@ -21,10 +30,7 @@ returns c =
     holds-none (λ m. lift (flatten m) (getElem? plain (c .before .args .reference))) (λ m. rw e)
 
 returns-2 : tie.Need-returns-2
-unfolding packedTo pack flatten
-returns-2 c =
-    let e = c .if2 .taken in
-    holds (λ m. lift (flatten m) (getElem? plain (c .before .before .args .reference))) (rw e) (rw e)
+returns-2 c = rw (c .if2 .taken) pair
 
 mul-code : tie.Need-mul-code
 mul-code c = search needs
@@ -35,14 +41,16 @@ cast-code c = search needs
 shr-code : tie.Need-shr-code
 shr-code c = search needs
 
-cast-word : tie.Need-cast-word
-cast-word c = search (needs, two-bits)
+mul-t5 : tie.Need-mul-t5
+mul-t5 c = search (needs, code-fits)
 
 returns-3 : tie.Need-returns-3
 unfolding packedTo pack flatten
 returns-3 c =
-    let each = scalar _ (λ _ m. refl, (λ _ m. refl, (λ _ m. refl, (λ _ m. refl, (λ _ m. refl, (λ _ m. refl, (λ _ m. refl, (λ _ m. refl, (λ _ m. refl, (λ _ m. refl, (λ _ m. refl, (λ _ m. refl, (λ string m. absurd (string refl), (λ _ m. refl, (λ _ m. refl, (λ _ m. refl, (λ _ m. refl, (λ _ m. refl, tt)))))))))))))))))) (c .before .before .args .reference) (omega arith) (c .if2 .left) in
-    holds (λ m. lift (flatten m) (getElem? plain (c .before .before .args .reference))) (each mem32) (each mem64)
+    let a = c .before .before .args in
+    let code = bitAnd (3751936 / 2 ^ (a .reference * 2)) 3 in
+    let each = scalar _ (λ _ m. refl, (λ _ m. refl, (λ _ m. refl, (λ _ m. refl, (λ _ m. refl, (λ _ m. refl, (λ _ m. refl, (λ _ m. refl, (λ _ m. refl, (λ _ m. refl, (λ _ m. refl, (λ _ m. refl, (λ string m. absurd (string refl), (λ _ m. refl, (λ _ m. refl, (λ _ m. refl, (λ _ m. refl, (λ _ m. refl, tt)))))))))))))))))) (a .reference) (omega arith) (c .if2 .left) in
+    holds (λ m. lift (flatten m) (getElem? plain (a .reference))) (λ m. code) (twice-is code) (code-small (3751936 / 2 ^ (a .reference * 2))) each
 
 pub plain-spec : {M : Type 1} → statement M
-plain-spec = tie.close (tie.spec returns returns-2 mul-code cast-code shr-code cast-word returns-3)
+plain-spec = tie.close (tie.spec returns returns-2 mul-code cast-code shr-code mul-t5 returns-3)

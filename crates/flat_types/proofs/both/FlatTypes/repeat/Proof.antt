@@ -1,10 +1,13 @@
 -- In each memory so many copies.
+use mathlib.Core.Path.{refl}
 use native.Mathlib.Nat.{mul-le-mul-right}
 use native.Mathlib.Omega.{arith}
-use borrow.Author.Needs.{needs}
 use Rattle.canon.specs.Flat.{copies}
-use Rattle.flat_types.specs.Lists.{wordsIn}
-use Rattle.flat_types.proofs.Listing.{holds-by, holds-none, one-none, repeat-none, repeat-is}
+use Rattle.canon.specs.Layout.{mem32, within}
+use Rattle.canon.specs.Pack.{pack, unpack}
+use Rattle.flat_types.specs.Lists.{halves, wordsIn}
+use Rattle.flat_types.proofs.Listing.{holds, holds-none, one-none, repeat-none, repeat-is, repeat-fits}
+use borrow.Author.Needs.{needs}
 use Rattle.flat_types.proofs.both.FlatTypes.repeat.Statement.{statement}
 use Rattle.flat_types.proofs.both.FlatTypes.repeat.Tie as tie
 
@@ -28,20 +31,17 @@ returns-2 c =
 cast-count : tie.Need-cast-count
 cast-count c = search needs
 
-repeat-word-requires : tie.Need-repeat-word-requires
-repeat-word-requires c κs = search needs
-
-repeat-word-requires-2 : tie.Need-repeat-word-requires-2
-repeat-word-requires-2 c κs = search needs
+repeat-words-requires : tie.Need-repeat-words-requires
+repeat-words-requires c κs = search needs
 
 returns-3 : tie.Need-returns-3
 returns-3 c =
-    let s = c .before .before in
+    let s = c .before in
     let a = s .before .before .args in
-    holds-by _ _
-    (λ m w. repeat-is (wordsIn m (a .self)) (a .n) w (s .before .if1 .left) (s .if2 .left))
-    (c .before .repeat-word .ensures)
-    (c .repeat-word2 .ensures)
+    holds _ (λ m. pack (copies (a .n) (unpack (a .self .count) (within m (halves (a .self .words))))))
+    (c .repeat-words .ensures)
+    (repeat-fits (wordsIn mem32 (a .self)) (a .n) (s .if2 .left))
+    (λ m. repeat-is (wordsIn m (a .self)) (a .n) _ (s .before .if1 .left) (s .if2 .left) refl)
 
 pub repeat-spec : {M : Type 1} → statement M
 repeat-spec =
@@ -53,6 +53,5 @@ repeat-spec =
     cast-if2
     returns-2
     cast-count
-    repeat-word-requires
-    repeat-word-requires-2
+    repeat-words-requires
     returns-3)

@@ -1,29 +1,24 @@
 -- The pointer is a list of one type.
-use native.Mathlib.Omega.{arith}
+use mathlib.Core.Path.{ap, _∙_}
+use Prim.Native.Nat.{ℕ}
+use Rattle.flat_types.specs.Lists.{words}
+use Rattle.flat_types.specs.Places.{appendTo}
 use borrow.Author.Needs.{needs}
-use Rattle.flat_types.specs.Lists.{words, memoryOf}
-use Rattle.flat_types.proofs.Listing.{pointed-none, pointed-is}
 use Rattle.flat_types.proofs.list.FlatList.with_pointer.Statement.{statement}
 use Rattle.flat_types.proofs.list.FlatList.with_pointer.Tie as tie
-
-returns : tie.Need-returns
-returns c = pointed-none (words (c .before .args .self)) (memoryOf (c .before .args .memory)) (omega arith)
 
 pointer-code-requires : tie.Need-pointer-code-requires
 pointer-code-requires c κs = search needs
 
-append-requires : tie.Need-append-requires
-append-requires c κs = search needs
+add-append-to : tie.Need-add-append-to
+add-append-to c = search needs
 
-add-count : tie.Need-add-count
-add-count c = search needs
+append-to-requires : tie.Need-append-to-requires
+append-to-requires c κs = search needs
 
-returns-2 : tie.Need-returns-2
-returns-2 c =
-    let a = c .before .before .before .args in
-    pointed-is (words (a .self)) (memoryOf (a .memory)) _ (c .before .before .if1 .left)
-    (rw (c .before .pointer-code .ensures) at (c .append .ensures))
+returns : tie.Need-returns
+returns c = c .append-to .ensures ∙ ap (λ (x : ℕ). appendTo 17 (words (c .before .before .args .self)) (record { number = 1; types = x })) (c .before .pointer-code .ensures)
 
 pub with-pointer-spec : {M : Type 1} → statement M
 with-pointer-spec =
-    tie.close (tie.spec returns pointer-code-requires append-requires add-count returns-2)
+    tie.close (tie.spec pointer-code-requires add-append-to append-to-requires returns)

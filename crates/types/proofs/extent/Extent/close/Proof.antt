@@ -9,7 +9,7 @@ member-requires c κs = search needs
 
 returns : tie.Need-returns
 unfolding closeOf
-returns c = search needs
+returns c = simp (c .before .member .ensures)
 
 pub close-spec : {M : Type 1} → statement M
 close-spec = tie.close (tie.spec member-requires returns)

@@ -1,17 +1,13 @@
 -- The step, call by call.
 use native.Mathlib.Omega.{arith}
-use Rattle.types.specs.Extents.{memberOf}
+use Rattle.types.specs.Extents.{memberOf, extentAt}
 use Rattle.types.proofs.RoundLaws.{rounded-between}
 use borrow.Author.Needs.{needs}
 use Rattle.types.proofs.extent.Extent.member.Statement.{statement}
 use Rattle.types.proofs.extent.Extent.member.Tie as tie
 
-max-requires : tie.Need-max-requires
-max-requires c κs = search needs
-
-returns : tie.Need-returns
-unfolding memberOf
-returns c = simp (c .if1 .taken, c .before .max .ensures)
+stopped-requires : tie.Need-stopped-requires
+stopped-requires c κs = search needs
 
 round-up-requires : tie.Need-round-up-requires
 round-up-requires c κs = search needs
@@ -20,26 +16,26 @@ cast-end : tie.Need-cast-end
 cast-end c = search needs
 
 add-end : tie.Need-add-end
-add-end c = omega (
-  arith,
-  rounded-between (c .before .before .before .before .args .self .end)
-      (c .before .before .before .before .args .member .align),
-)
+add-end c = omega (arith, c .before .round-up .ensures, c .before .before .stopped .ensures, rounded-between (c .before .before .stopped .result) (c .before .before .before .args .member .align))
 
-reach-requires : tie.Need-reach-requires
-reach-requires c κs = search needs
+stopped-requires-2 : tie.Need-stopped-requires-2
+stopped-requires-2 c κs = search needs
 
-returns-2 : tie.Need-returns-2
-unfolding memberOf
-returns-2 c =
-    simp (
-      c .reach .ensures,
-      c .before .before .round-up .ensures,
-      c .before .before .before .if1 .left,
-      c .before .before .before .before .max .ensures,
-    )
+max-requires : tie.Need-max-requires
+max-requires c κs = search needs
+
+returns : tie.Need-returns
+unfolding memberOf extentAt
+returns c = simp (c .before .stopped2 .ensures, c .before .before .before .round-up .ensures, c .before .before .before .before .stopped .ensures, c .max .ensures)
 
 pub member-spec : {M : Type 1} → statement M
 member-spec =
     tie.close
-    (tie.spec max-requires returns round-up-requires cast-end add-end reach-requires returns-2)
+    (tie.spec
+    stopped-requires
+    round-up-requires
+    cast-end
+    add-end
+    stopped-requires-2
+    max-requires
+    returns)

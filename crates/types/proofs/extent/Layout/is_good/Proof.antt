@@ -1,17 +1,16 @@
 -- The mask of the rest, by the test that an alignment passes.
 use mathlib.Core.Path.{sym, _∙_}
 use native.Mathlib.Omega.{arith}
-use Rattle.canon.specs.Round.{Alignment}
 use Rattle.canon.specs.Row.{goodLayout}
-use Rattle.canon.proofs.Rounding.{alignment-pos}
-use Rattle.types.proofs.RoundLaws.{alignment-is, mask-rest}
+use Rattle.canon.proofs.Rounding.{alignment-pos, Alignment, alignment-tested}
+use Rattle.types.proofs.RoundLaws.{mask-rest}
 use borrow.Author.Needs.{needs}
 use Rattle.types.proofs.extent.Layout.is_good.Statement.{statement}
 use Rattle.types.proofs.extent.Layout.is_good.Tie as tie
 
 -- what the test says
 aligned : (c : tie.Then1) → Alignment (c .before .before .args .self .align)
-aligned c = alignment-is _ (sym (c .before .is-alignment .ensures) ∙ c .if1 .taken)
+aligned c = alignment-tested _ (sym (c .before .is-alignment .ensures) ∙ c .if1 .taken)
 
 is-alignment-requires : tie.Need-is-alignment-requires
 is-alignment-requires c κs = search needs

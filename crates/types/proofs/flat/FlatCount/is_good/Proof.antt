@@ -7,6 +7,9 @@ use Rattle.types.proofs.flat.FlatCount.is_good.Tie as tie
 enum-known-self : tie.Need-enum-known-self
 enum-known-self c = search needs
 
+cast-result : tie.Need-cast-result
+cast-result c = search needs
+
 enum-told : tie.Need-enum-told
 enum-told c = search needs
 
@@ -19,4 +22,4 @@ unfolding goodCount
 returns-2 c = search needs
 
 pub is-good-spec : {M : Type 1} → statement M
-is-good-spec = tie.close (tie.spec enum-known-self enum-told returns returns-2)
+is-good-spec = tie.close (tie.spec enum-known-self cast-result enum-told returns returns-2)

@@ -13,21 +13,12 @@ returns c = simp (c .if1 .taken)
 close-requires : tie.Need-close-requires
 close-requires c κs = search needs
 
-close-requires-2 : tie.Need-close-requires-2
-close-requires-2 c κs = search needs
-
 fitted-requires : tie.Need-fitted-requires
 fitted-requires c κs = search needs
 
 returns-2 : tie.Need-returns-2
 unfolding closeFields given
-returns-2 c =
-    c .fitted .ensures ∙ simp (
-      c .before .before .close .ensures,
-      c .before .close2 .ensures,
-      c .before .before .before .before .before .if1 .left,
-    )
+returns-2 c = c .fitted .ensures ∙ simp (c .before .close .ensures, c .before .before .before .if1 .left)
 
 pub record-spec : {M : Type 1} → statement M
-record-spec =
-    tie.close (tie.spec returns close-requires close-requires-2 fitted-requires returns-2)
+record-spec = tie.close (tie.spec returns close-requires fitted-requires returns-2)

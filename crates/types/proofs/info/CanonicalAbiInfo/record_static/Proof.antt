@@ -111,7 +111,7 @@ use denote.Triple.Table.{entered, cited}
 use denote.Triple.Walked.{says, Stays, stay-none-slice, walkOf, goes-none-slice, Walks, ends-at, walked, walk-meets}
 use denote.Triple.Clauses.{ensured, lasts}
 use denote.Exit.{yes}
-use Rattle.types.specs.Means.{abiMeans, infoMeans}
+use Rattle.types.specs.Means.{abiMeans, infoAnswerMeans}
 use Rattle.types.specs.Leaves.{recordAnswer}
 use Rattle.types.specs.States.{Fields, recordMeans, noFields, addField, closeFields}
 use Rattle.types.specs.declared.info.CanonicalAbiInfo.{CanonicalAbiInfo}
@@ -181,7 +181,7 @@ abbrev Stepped : RecordState → CanonicalAbiInfo → RecordState → Type 0
 Stepped a y r = recordMeans r ≡ addField (recordMeans a) (abiMeans y)
 
 abbrev Finished : RecordState → InfoAnswer → Type 0
-Finished a r = infoMeans r ≡ closeFields (recordMeans a)
+Finished a r = infoAnswerMeans r ≡ closeFields (recordMeans a)
 
 module _ {M : Type 1} (𝓤 : URA M) (H : Heap 𝓤) (A : Atoms 𝓤) (mem : Memory → SProp 𝓤) (run : Routine → Fun 𝓤) where
   -- the contracts that the proof cites
@@ -240,7 +240,7 @@ module _ {M : Type 1} (𝓤 : URA M) (H : Heap 𝓤) (A : Atoms 𝓤) (W : Given
   abbrev Post : Val → SProp 𝓤
   Post = walkOf 𝓤 H A total.ended stayed (total.clauses 𝓤 H A mem run) .post (((κ, tt), (q, tt), tt, (x, tt), at), tt)
 
-  exits : (a : InfoAnswer) (u : Val) → Is Z a (u ∷ []) → infoMeans a ≡ recordAnswer (map abiMeans ys)
+  exits : (a : InfoAnswer) (u : Val) → Is Z a (u ∷ []) → infoAnswerMeans a ≡ recordAnswer (map abiMeans ys)
       → ent 𝓤 (⋆ 𝓤 H A (‵ (flft κ q) ∷ ‵ (ShrSlice (named 0) κ R .own x (v ∷ [])) ∷ [])) (Post u)
   exits a u is e =
       qed W (‵ (flft κ q) ∷ ‵ (ShrSlice (named 0) κ R .own x (v ∷ [])) ∷ []) ∵

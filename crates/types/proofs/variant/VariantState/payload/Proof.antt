@@ -1,20 +1,14 @@
--- The greater in each memory, call by call.
+-- The greater in both memories, call by call.
 use Rattle.types.specs.States.{addCase}
 use borrow.Author.Needs.{needs}
 use Rattle.types.proofs.variant.VariantState.payload.Statement.{statement}
 use Rattle.types.proofs.variant.VariantState.payload.Tie as tie
 
-layout32-requires : tie.Need-layout32-requires
-layout32-requires c κs = search needs
+layouts-requires : tie.Need-layouts-requires
+layouts-requires c κs = search needs
 
 widest-requires : tie.Need-widest-requires
 widest-requires c κs = search needs
-
-layout64-requires : tie.Need-layout64-requires
-layout64-requires c κs = search needs
-
-widest-requires-2 : tie.Need-widest-requires-2
-widest-requires-2 c κs = search needs
 
 max-flat-requires : tie.Need-max-flat-requires
 max-flat-requires c κs = search needs
@@ -27,25 +21,14 @@ is-good-requires c κs = search needs
 
 returns : tie.Need-returns
 unfolding addCase
-returns c =
-    simp (
-      c .before .before .before .before .before .before .widest .ensures,
-      c .before .before .before .before .widest2 .ensures,
-      c .before .before .before .before .before .before .before .layout32 .ensures,
-      c .before .before .before .before .before .layout64 .ensures,
-      c .before .before .before .max-flat .ensures,
-      c .before .before .one-more .ensures,
-      c .before .is-good .ensures,
-    )
+returns c = simp (c .before .before .before .before .widest .ensures, c .before .before .before .before .before .layouts2 .ensures, c .before .before .before .max-flat .ensures, c .before .before .one-more .ensures, c .before .is-good .ensures)
 
 pub payload-spec : {M : Type 1} → statement M
 payload-spec =
     tie.close
     (tie.spec
-    layout32-requires
+    layouts-requires
     widest-requires
-    layout64-requires
-    widest-requires-2
     max-flat-requires
     one-more-requires
     is-good-requires
