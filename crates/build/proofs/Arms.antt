@@ -6,19 +6,20 @@ use types.Run.{OneOf, miss}
 use denote.Enum.Declared.{tagOf}
 use Rattle.canon.specs.Answer.{Leaf}
 use Rattle.canon.specs.Row.{Info}
-use Rattle.build.specs.Heads.{kindWord, operands}
+use Rattle.canon.specs.Types.{kindWord}
+use Rattle.head.specs.Heads.{between}
+use Rattle.head.specs.Means.{kindMeans}
+use Rattle.head.specs.declared.Kind.{Kind}
+use Rattle.head.specs.declared.Kind.the-variants as kind
+use Rattle.head.proofs.Kind.{the-type}
 use Rattle.build.specs.Kinds.{variantRow, rowOfKind}
-use Rattle.build.specs.Means.{kindMeans}
-use Rattle.build.specs.Steps.{refsAt, foldRefs, noMembers, addMember, membersRow}
-use Rattle.build.specs.declared.head.Kind.{Kind}
-use Rattle.build.specs.declared.head.Kind.the-variants as kind
-use Rattle.build.proofs.head.Kind.{the-type}
+use Rattle.build.specs.Steps.{foldRefs, noMembers, addMember, membersRow}
 
-module _ (look : ℕ → Leaf Info) (ws : List ℕ) (n first : ℕ) where
+module _ (look : ℕ → Leaf Info) (ws : List ℕ) (n first end : ℕ) where
   pub members-arm :
       (k : Kind) → OneOf (0 ∷ 3 ∷ []) (tagOf the-type k) →
-      foldRefs look addMember (refsAt ws first (operands (kindMeans k) n)) noMembers (membersRow (kindWord (kindMeans k)))
-      ≡ rowOfKind look ws (kindMeans k) n first
+      foldRefs look addMember (between ws first end) noMembers (membersRow (kindWord (kindMeans k)))
+      ≡ rowOfKind look ws (kindMeans k) n first end
   unfolding rowOfKind
   members-arm kind.Record h = refl
   members-arm kind.Variant h = absurd (miss (0 ∷ 3 ∷ []) 1 tt h)
@@ -33,8 +34,8 @@ module _ (look : ℕ → Leaf Info) (ws : List ℕ) (n first : ℕ) where
 
   pub cases-arm :
       (k : Kind) → OneOf (1 ∷ 8 ∷ []) (tagOf the-type k) →
-      variantRow (kindWord (kindMeans k)) look (refsAt ws first (operands (kindMeans k) n)) (operands (kindMeans k) n)
-      ≡ rowOfKind look ws (kindMeans k) n first
+      variantRow (kindWord (kindMeans k)) look (between ws first end)
+      ≡ rowOfKind look ws (kindMeans k) n first end
   unfolding rowOfKind
   cases-arm kind.Record h = absurd (miss (1 ∷ 8 ∷ []) 0 tt h)
   cases-arm kind.Variant h = refl

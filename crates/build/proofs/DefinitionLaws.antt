@@ -9,36 +9,17 @@ use native.Mathlib.Omega.{arith}
 use lib.Dec.{ltb}
 use lib.ListN.{length, getD, take, drop, length-drop}
 use lib.Seq.{getD-drop}
-use borrow.Author.Tests.{ltb-false}
+use borrow.Author.Tests.{ltb-false, lt-ltb}
 use Rattle.canon.specs.Answer.{Leaf, is, no as refuses, truncated, badCount, tooLarge, andThen}
-use Rattle.canon.specs.Types.{Ty}
+use Rattle.canon.specs.Types.{Ty, Kind}
 use Rattle.canon.specs.Layout.{mem32, mem64}
 use Rattle.canon.specs.Row.{Info, rowOf}
-use Rattle.canon.specs.Description.{
-  Kind,
-  kRecord,
-  kVariant,
-  kList,
-  kTuple,
-  kMap,
-  kFlags,
-  kEnum,
-  kOption,
-  kResult,
-  kFixed,
-  kindOf,
-  bodyLength,
-  isBadCount,
-  typeOf,
-  isTooLarge,
-  Defined,
-  fitted,
-  bodied,
-  define,
-}
+use Rattle.canon.specs.Description.{kindOf, isBadCount, typeOf, isTooLarge, Defined, checked, bodied, define}
 use Rattle.canon.proofs.Tests.{impossible}
 use Rattle.canon.proofs.Built.{typeInfo}
-use Rattle.build.specs.Heads.{Heading, skipped, operands, Spans, bodyAt, headKind, headAt}
+use Rattle.canon.specs.Description.{shapeOf, bodyLength}
+use Rattle.head.specs.Heads.{Heading, heading, bodyAt, headKind, headAt}
+use Rattle.head.proofs.Laws.{head-spans}
 use Rattle.build.specs.Kinds.{kindRow, DefinedIs, definedAt}
 use Rattle.build.proofs.FitLaws.{rowLeaf}
 use Rattle.build.proofs.BodyLaws.{kind-row}
@@ -52,13 +33,10 @@ definedLeaf at (refuses x) = refuses x
 abbrev fromHead : (ℕ → Leaf Info) → List ℕ → Leaf Heading → Leaf DefinedIs
 fromHead look ws l = andThen l (λ h. andThen (kindRow look ws h) (λ r. is (record { row = r; next = h .next })))
 
-abbrev heading : Kind → List ℕ → ℕ → Heading
-heading k ws from = record { kind = k; count = getD ws from 0; first = from + skipped k; next = from + bodyLength k (getD ws from 0) }
-
 -- the row's answer with the place of the next
 with-next : (at n : ℕ) (o : Option Ty) →
-    andThen (rowLeaf (fitted n o)) (λ r. is (record { row = r; next = at + 1 + n })) ≡ definedLeaf at (fitted n o)
-unfolding andThen fitted
+    andThen (rowLeaf (checked n o)) (λ r. is (record { row = r; next = at + 1 + n })) ≡ definedLeaf at (checked n o)
+unfolding andThen checked
 with-next at n none = refl
 with-next at n (some t) = go (isTooLarge mem32 t || isTooLarge mem64 t)
   where
@@ -73,64 +51,39 @@ module _ (ts : List Ty) (ws : List ℕ) (at : ℕ) (there : at < length ws) wher
   unfolding bodyAt bodied andThen
   body k =
       rw (length-drop (at + 1) ws, getD-drop (at + 1) ws 0 0, add-zero (at + 1))
-      (go (ltb (length ws - (at + 1)) (bodyLength k n)) (isBadCount k n) refl refl)
+      (go (ltb (length ws - (at + 1)) (bodyLength (shapeOf k) n)) refl)
     where
       n : ℕ
       n = getD ws (at + 1) 0
 
-      go : (b c : Bool) → ltb (length ws - (at + 1)) (bodyLength k n) ≡ b → isBadCount k n ≡ c →
-          fromHead (typeInfo ts) ws (cond b (refuses truncated) (cond c (refuses badCount) (is (heading k ws (at + 1)))))
-          ≡ definedLeaf at (cond b (refuses truncated) (cond c (refuses badCount) (fitted (bodyLength k n) (typeOf ts k (take (bodyLength k n) (drop (at + 1) ws))))))
-      go true c p q = refl
-      go false true p q = refl
-      go false false p q =
-          rw (kind-row ts k ws (at + 1) n (bodyLength k n) refl q (omega (arith, ltb-false (length ws - (at + 1)) (bodyLength k n) p)))
-          (with-next at (bodyLength k n) (typeOf ts k (take (bodyLength k n) (drop (at + 1) ws))))
+      len : ℕ
+      len = bodyLength (shapeOf k) n
+
+      type : Option Ty
+      type = typeOf ts k (take len (drop (at + 1) ws))
+
+      tested : (b : Bool) →
+          andThen (cond b (refuses badCount) (rowLeaf (checked len type))) (λ r. is (record { row = r; next = at + 1 + len }))
+          ≡ definedLeaf at (cond b (refuses badCount) (checked len type))
+      tested true = refl
+      tested false = with-next at len type
+
+      go : (b : Bool) → ltb (length ws - (at + 1)) len ≡ b →
+          fromHead (typeInfo ts) ws (cond b (refuses truncated) (is (heading k ws (at + 1))))
+          ≡ definedLeaf at (cond b (refuses truncated) (cond (isBadCount k n) (refuses badCount) (checked len type)))
+      go true p = refl
+      go false p =
+          rw (kind-row ts k ws (at + 1) n len refl (omega (arith, ltb-false (length ws - (at + 1)) len p))) (tested (isBadCount k n))
 
   pub defined-at : definedAt (typeInfo ts) ws at ≡ definedLeaf at (define ts (getD ws at 0) (drop (at + 1) ws))
   unfolding definedAt headAt headKind bodied andThen
-  defined-at = go (kindOf (getD ws at 0))
+  defined-at = rw (lt-ltb at (length ws) there) (go (kindOf (getD ws at 0)))
     where
       go : (o : Option Kind) → fromHead (typeInfo ts) ws (headKind o ws (at + 1)) ≡ definedLeaf at (bodied ts o (drop (at + 1) ws))
       go none = refl
       go (some k) = body k
 
 -- A definition moves on
-
--- a body is of a word at least: those skipped and the operands
-body-split : (k : Kind) (n : ℕ) → (1 ≤ bodyLength k n) × (skipped k + operands k n ≡ bodyLength k n)
-body-split kRecord n = omega arith
-body-split kVariant n = omega arith
-body-split kList n = omega arith
-body-split kTuple n = omega arith
-body-split kMap n = omega arith
-body-split kFlags n = omega arith
-body-split kEnum n = omega arith
-body-split kOption n = omega arith
-body-split kResult n = omega arith
-body-split kFixed n = omega arith
-
-kind-spans : (ws : List ℕ) (at : ℕ) (o : Option Kind) (h : Heading) → headKind o ws (at + 1) ≡ is h → (at < h .next) × Spans h (length ws)
-unfolding headKind bodyAt
-kind-spans ws at none h e = impossible (cc)
-kind-spans ws at (some k) h e = go (ltb (length ws - (at + 1)) (bodyLength k n)) (isBadCount k n) refl e
-  where
-    n : ℕ
-    n = getD ws (at + 1) 0
-
-    go : (b c : Bool) → ltb (length ws - (at + 1)) (bodyLength k n) ≡ b →
-        cond b (refuses truncated) (cond c (refuses badCount) (is (heading k ws (at + 1)))) ≡ is h →
-        (at < h .next) × Spans h (length ws)
-    go true c p e = impossible (cc)
-    go false true p e = impossible (cc)
-    go false false p e =
-        let q : heading k ws (at + 1) ≡ h = cc in
-        rw (← q) (omega (arith, body-split k n, ltb-false (length ws - (at + 1)) (bodyLength k n) p))
-
--- the next definition stands after this one and not past the end, and the operands end there
-pub head-spans : (ws : List ℕ) (at : ℕ) (h : Heading) → headAt ws at ≡ is h → (at < h .next) × Spans h (length ws)
-unfolding headAt
-head-spans ws at = kind-spans ws at (kindOf (getD ws at 0))
 
 pub moves-on :
     (look : ℕ → Leaf Info) (ws : List ℕ) (at : ℕ) (d : DefinedIs) →
@@ -143,7 +96,7 @@ moves-on look ws at d e = head (headAt ws at) refl e
         andThen l (λ r. is (record { row = r; next = h .next })) ≡ is d → (at < d .next) × (d .next ≤ length ws)
     row h (is r) p e =
         let q : record { row = r; next = h .next } ≡ d = cc in
-        rw (← q) (omega (arith, head-spans ws at h p))
+        rw (← q) ((head-spans ws at h p .0, omega (arith, head-spans ws at h p .1 .inside)))
     row h (refuses x) p e = impossible (cc)
 
     head : (l : Leaf Heading) → headAt ws at ≡ l → fromHead look ws l ≡ is d → (at < d .next) × (d .next ≤ length ws)

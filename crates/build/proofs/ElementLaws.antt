@@ -7,53 +7,79 @@ use Prim.Native.Nat.{ℕ, _+_, _≤_}
 use native.Mathlib.Omega.{arith}
 use lib.Dec.{ltb}
 use borrow.Author.Tests.{ltb-false, le-leb}
-use Rattle.canon.specs.Answer.{is, andThen}
-use Rattle.canon.specs.Types.{Ty, listOf, mapOf, flagsOf, fixedOf}
-use Rattle.canon.specs.Round.{roundUp}
-use Rattle.canon.specs.Layout.{Memory, mem32, mem64, Layout, starts, lastEnd, greatestAlign, recordSize, recordLayout, flagsLayout, fixedLayout, largestNumber, layout}
-use Rattle.canon.specs.Flat.{flatten, flatCount}
-use Rattle.canon.specs.Pack.{pack}
-use Rattle.canon.specs.Borrow.{borrows}
-use Rattle.canon.specs.Description.{fitted}
-use Rattle.canon.specs.Row.{infoOf}
+use Rattle.canon.specs.Answer.{is, lift, andThen}
+use Rattle.canon.specs.Types.{Ty, listOf, mapOf, flagsOf, fixedOf, kFixed, kindWord}
+use Rattle.canon.specs.Layout.{Memory, mem32, mem64, Both, both, Layout, starts, lastEnd, greatestAlign, recordSize, recordLayout, flagsLayout, fixedLayout, mostFlags, largestNumber, layout}
+use Rattle.canon.specs.Layout.{roundUp}
+use Rattle.canon.specs.Flat.{copies, flatten, flatCount}
+use Rattle.canon.specs.Pack.{Packed, pack}
+use Rattle.canon.specs.Description.{checked}
+use Rattle.canon.specs.Row.{noInner, Info, infoOf, typeFlat}
+use Rattle.canon.specs.Reach.{reach}
 use Rattle.canon.proofs.Alignments.{flags-by, layout-aligned}
 use Rattle.canon.proofs.Tightest.{Aligned, le-recordSize}
-use Rattle.types.specs.Extents.{startExtent, endsAt, memberOf}
+use Rattle.types.specs.Extents.{startExtent, memberOf, closeOf, fittedOf}
+use Rattle.types.specs.declared.extent.Extent.{Extent}
+use Rattle.types.specs.declared.extent.Step.{Step}
 use Rattle.types.specs.Leaves.{given, flagsAnswer}
-use Rattle.types.proofs.ExtentLaws.{membersOf, members-reach, record-reach, reach-at}
-use Rattle.flat_types.proofs.Trees.{flags-type, fixed-type}
-use Rattle.build.specs.Kinds.{listRow, fixedRow, flagsRow, valueOffset, entryRow}
+use Rattle.types.proofs.ExtentLaws.{membersOf, member-reach, member-fits, close-fits, members-reach, record-reach, fitted-fits}
+use Rattle.flat_types.specs.Lists.{unpacked, packed, memoryWords}
+use Rattle.flat_types.proofs.Rows.{both-in, repeat-words, flags-words}
+use Rattle.build.specs.Steps.{infoFlat, infoLayout}
+use Rattle.build.specs.Kinds.{listRow, fixedRow, flagsRow, valueStep, entryRow}
+use Rattle.build.proofs.Wording.{fit-same}
 use Rattle.build.proofs.FitLaws.{rowLeaf, each, type-counted, row-words, row-fits, fit-row}
 
 -- two pointers, whatever the element
-pub list-row : (t : Ty) (n : ℕ) → listRow (infoOf t) ≡ rowLeaf (fitted n (some (listOf t)))
-unfolding listRow layout flatten flatCount borrows pack
+pub list-row : (t : Ty) (n : ℕ) → listRow (infoOf t) ≡ rowLeaf (checked n (some (listOf t)))
+unfolding listRow layout flatten flatCount reach pack
 list-row t n = ap is (row-words (listOf t)) ∙ row-fits (listOf t) n (each _ (omega arith) (omega arith))
 
-pub fixed-row : (t : Ty) (c n : ℕ) → fixedRow c (infoOf t) ≡ rowLeaf (fitted n (some (fixedOf t c)))
-unfolding fixedRow layout borrows
+fixed-words : (t : Ty) (c : ℕ) → both (λ m. packed (lift (copies c) (unpacked (memoryWords m (infoFlat (infoOf t)))))) ≡ both (λ m. typeFlat m (fixedOf t c))
+unfolding flatten flatCount
+fixed-words t c = λ i. record { in32 = one mem32 i; in64 = one mem64 i }
+  where
+    one : (m : Memory) → packed (lift (copies c) (unpacked (memoryWords m (infoFlat (infoOf t))))) ≡ typeFlat m (fixedOf t c)
+    one m =
+        ap (λ (p : Packed). packed (lift (copies c) (unpacked p))) (both-in (flatCount t) (λ i. flatten i t) (type-counted mem32 t) m)
+        ∙ repeat-words (flatCount t) (flatten m t) (type-counted m t) c
+
+pub fixed-row : (t : Ty) (c n : ℕ) → fixedRow c (infoOf t) ≡ rowLeaf (checked n (some (fixedOf t c)))
+unfolding fixedRow layout reach
 fixed-row t c n =
-    rw (fixed-type mem32 (type-counted mem32) t c, fixed-type mem64 (type-counted mem64) t c)
-    (fit-row (fixedOf t c) (λ m. fixedLayout (layout m t) c) _ n (λ m. refl) (λ h. row-words (fixedOf t c)))
+    fit-same {ns = both (λ m. noInner)} (kindWord kFixed) refl (fixed-words t c) refl refl
+    ∙ fit-row (fixedOf t c) (λ m. fixedLayout (layout m t) c) _ n (λ m. refl) (λ h. row-words (fixedOf t c))
 
 flags-fits : (n : ℕ) → flagsLayout n .size ≤ largestNumber
 flags-fits n = flags-by (λ f. f .size ≤ largestNumber) (omega arith) (omega arith) (omega arith) (omega arith) n
 
-pub flags-row : (c n : ℕ) → ltb 32 c ≡ false → flagsRow c ≡ rowLeaf (fitted n (some (flagsOf c)))
-unfolding flagsRow flagsAnswer given andThen layout flatten flatCount borrows
+pub flags-row : (c n : ℕ) → ltb mostFlags c ≡ false → flagsRow c ≡ rowLeaf (checked n (some (flagsOf c)))
+unfolding flagsRow flagsAnswer given andThen layout flatten flatCount reach
 flags-row c n h =
-    rw (le-leb c 32 (ltb-false 32 c h), flags-type mem32 c)
+    rw (le-leb c mostFlags (ltb-false mostFlags c h), flags-words c)
     (ap is (row-words (flagsOf c)) ∙ row-fits (flagsOf c) n (λ m. flags-fits c))
 
 -- where the entry fits, the value starts after the key
 value-start :
     (f g : Layout) → Aligned (f ∷ g ∷ []) → recordSize (f ∷ g ∷ []) ≤ largestNumber →
-    valueOffset (memberOf startExtent f) g ≡ roundUp (roundUp 0 (f .align) + f .size) (g .align)
-unfolding valueOffset membersOf lastEnd
+    memberOf (memberOf startExtent f .extent) g .start ≡ roundUp (roundUp 0 (f .align) + f .size) (g .align)
+unfolding membersOf lastEnd greatestAlign
 value-start f g w h =
-    let e : memberOf (memberOf startExtent f) g ≡ endsAt (lastEnd 0 (f ∷ g ∷ [])) (greatestAlign (f ∷ g ∷ [])) =
-    members-reach (f ∷ g ∷ []) w ∙ reach-at _ _ (omega (arith, le-recordSize (f ∷ g ∷ []) w)) in
-    rw e (omega arith)
+    ap (λ (x : Extent). memberOf x g .start) (members-reach (f ∷ []) (w .0, tt))
+    ∙ ap (λ (s : Step). s .start) (member-reach (lastEnd 0 (f ∷ [])) (greatestAlign (f ∷ [])) g (w .1 .0))
+    ∙ omega (arith, le-recordSize (f ∷ g ∷ []) w)
+
+-- where an entry fits, its value starts below 4 GiB
+pub value-fits :
+    (k v : Info) (ls : Both Layout) → is ls ≡ fittedOf (both (λ m. closeOf (valueStep m k v .extent))) → (m : Memory) → valueStep m k v .start ≤ largestNumber
+value-fits k v ls e =
+    let whole = fitted-fits (both (λ m. closeOf (valueStep m k v .extent))) ls e in
+    each (λ m. valueStep m k v .start ≤ largestNumber) (starts-below mem32 (whole mem32)) (starts-below mem64 (whole mem64))
+  where
+    starts-below : (m : Memory) → closeOf (valueStep m k v .extent) .end ≤ largestNumber → valueStep m k v .start ≤ largestNumber
+    starts-below m h =
+        let ends = close-fits (valueStep m k v .extent) h in
+        omega (arith, member-fits (memberOf startExtent (infoLayout m k) .extent) (infoLayout m v) ends)
 
 module _ (k v : Ty) where
   abbrev entry : Memory → List Layout
@@ -62,8 +88,8 @@ module _ (k v : Ty) where
   aligned : (m : Memory) → Aligned (entry m)
   aligned m = (layout-aligned m k, (layout-aligned m v, tt))
 
-  pub map-row : (n : ℕ) → entryRow (infoOf k) (infoOf v) ≡ rowLeaf (fitted n (some (mapOf k v)))
-  unfolding entryRow membersOf starts layout flatten flatCount borrows pack
+  pub map-row : (n : ℕ) → entryRow (infoOf k) (infoOf v) ≡ rowLeaf (checked n (some (mapOf k v)))
+  unfolding entryRow membersOf starts layout flatten flatCount reach pack
   map-row n =
       rw (record-reach (entry mem32) (aligned mem32), record-reach (entry mem64) (aligned mem64))
       (fit-row (mapOf k v) (λ m. recordLayout (entry m)) _ n (λ m. refl) (λ h.

@@ -1,25 +1,26 @@
 -- A row of two extents is a type's row where the layouts, the flat words, the inner words and the borrow are the type's, and is refused exactly when canon finds the type too large.
 use mathlib.Core.Path.{_≡_, refl, sym, ap, _∙_}
-use mathlib.Core.Bool.{Bool, true, false, cond}
+use mathlib.Core.Bool.{Bool, true, false, cond, _||_}
 use mathlib.Core.List.{List}
 use mathlib.Core.Option.{some}
 use Prim.Native.Nat.{ℕ, _≤_}
 use lib.Dec.{ltb}
 use borrow.Author.Tests.{ltb-false, le-ltb}
-use Rattle.canon.specs.Answer.{Leaf, is, no as refuses, tooLarge}
+use Rattle.canon.specs.Answer.{Leaf, is, no as refuses, tooLarge, andThen}
 use Rattle.canon.specs.Types.{Ty}
 use Rattle.canon.specs.Layout.{Memory, mem32, mem64, Both, both, Layout, largestNumber, layout}
 use Rattle.canon.specs.Flat.{flatten, flatCount}
-use Rattle.canon.specs.Borrow.{borrows}
-use Rattle.canon.specs.Description.{isTooLarge, Defined, fitted}
-use Rattle.canon.specs.Row.{kindWord, inner, rowOf}
+use Rattle.canon.specs.Description.{isTooLarge, Defined, checked}
+use Rattle.canon.specs.Row.{rowKind, inner, rowOf, typeFlat, rowWords}
+use Rattle.canon.specs.Reach.{reach}
 use Rattle.canon.proofs.Counts.{counted}
 use Rattle.canon.proofs.FlatFolds.{Counted}
 use Rattle.canon.proofs.Sizes.{largestPart, tooLarge-size}
-use Rattle.types.specs.Extents.{reach, endsAt, tooFar}
-use Rattle.types.specs.declared.extent.Extent.{Extent}
-use Rattle.flat_types.proofs.Trees.{typeWords}
-use Rattle.build.specs.Steps.{wordsWith, fitRow}
+use Rattle.types.specs.Extents.{extentAt}
+use Rattle.types.proofs.ExtentLaws.{both-same, fitted-reach}
+use Rattle.flat_types.proofs.Rows.{both-in}
+use Rattle.flat_types.proofs.Trees.{typeBoth}
+use Rattle.build.specs.Steps.{fitRow, inEach}
 
 -- canon's definition as a row
 abbrev pub rowLeaf : Leaf Defined → Leaf (List ℕ)
@@ -35,44 +36,44 @@ each P p q mem64 = q
 pub type-counted : (m : Memory) (t : Ty) → Counted (flatCount t) (flatten m t)
 type-counted m t n e = let c = counted m t n .0 e in (c .0, c .1)
 
+-- words 5 to 7 of a type's row, in each memory
+pub type-words : (t : Ty) → inEach (typeBoth t) ≡ both (λ m. typeFlat m t)
+type-words t = both-same (λ m. both-in (flatCount t) (λ i. flatten i t) (type-counted mem32 t) m)
+
 -- the sixteen words of a type
 pub row-words :
     (t : Ty) →
-    wordsWith (kindWord t) (both (λ m. layout m t)) (both (λ m. typeWords m t)) (both (λ m. inner m t)) (borrows t) ≡ rowOf t
+    rowWords (rowKind t) (both (λ m. layout m t)) (both (λ m. typeFlat m t)) (both (λ m. inner m t)) (reach t) ≡ rowOf t
 unfolding rowOf
 row-words t = refl
 
--- canon's two tests, one after the other
-tested : (b c : Bool) (t : Ty) (n : ℕ) → isTooLarge mem32 t ≡ b → isTooLarge mem64 t ≡ c → rowLeaf (fitted n (some t)) ≡ cond b (refuses tooLarge) (cond c (refuses tooLarge) (is (rowOf t)))
-unfolding fitted
-tested true c t n p q = rw p
-tested false true t n p q = rw (p, q)
-tested false false t n p q = rw (p, q)
+-- canon's test of both memories
+tested : (b : Bool) (t : Ty) (n : ℕ) → isTooLarge mem32 t || isTooLarge mem64 t ≡ b → rowLeaf (checked n (some t)) ≡ cond b (refuses tooLarge) (is (rowOf t))
+unfolding checked
+tested true t n p = rw p
+tested false t n p = rw p
 
 -- a type whose sizes fit
-pub row-fits : (t : Ty) (n : ℕ) → ((m : Memory) → layout m (largestPart t) .size ≤ largestNumber) → is (rowOf t) ≡ rowLeaf (fitted n (some t))
-row-fits t n h = sym (tested false false t n (tooLarge-size mem32 t ∙ le-ltb _ _ (h mem32)) (tooLarge-size mem64 t ∙ le-ltb _ _ (h mem64)))
+pub row-fits : (t : Ty) (n : ℕ) → ((m : Memory) → layout m (largestPart t) .size ≤ largestNumber) → is (rowOf t) ≡ rowLeaf (checked n (some t))
+row-fits t n h = sym (tested false t n (rw (tooLarge-size mem32 t ∙ le-ltb _ _ (h mem32), tooLarge-size mem64 t ∙ le-ltb _ _ (h mem64))))
 
 -- the extents f are those that canon tests; where they fit, the words are the type's
 pub fit-row :
     (t : Ty) (f : Memory → Layout) (words : Both Layout → List ℕ) (n : ℕ) →
     ((m : Memory) → layout m (largestPart t) ≡ f m) →
     (((m : Memory) → f m .size ≤ largestNumber) → words (both f) ≡ rowOf t) →
-    fitRow (both (λ m. reach (f m .size) (f m .align))) words ≡ rowLeaf (fitted n (some t))
-unfolding fitRow reach
+    fitRow (both (λ m. extentAt (f m .size) (f m .align))) words ≡ rowLeaf (checked n (some t))
+unfolding fitRow andThen
 fit-row t f words n e k =
-    go (ltb largestNumber (f mem32 .size)) (ltb largestNumber (f mem64 .size)) refl refl
-    ∙ sym (tested (ltb largestNumber (f mem32 .size)) (ltb largestNumber (f mem64 .size)) t n (large mem32) (large mem64))
+    rw (fitted-reach f) (go (ltb largestNumber (f mem32 .size)) (ltb largestNumber (f mem64 .size)) refl refl)
   where
     large : (m : Memory) → isTooLarge m t ≡ ltb largestNumber (f m .size)
     large m = tooLarge-size m t ∙ ap (λ (l : Layout). ltb largestNumber (l .size)) (e m)
 
-    state : Memory → Bool → Extent
-    state m b = cond b (tooFar (f m .align)) (endsAt (f m .size) (f m .align))
-
     go : (b c : Bool) → ltb largestNumber (f mem32 .size) ≡ b → ltb largestNumber (f mem64 .size) ≡ c →
-        fitRow (record { in32 = state mem32 b; in64 = state mem64 c }) words
-        ≡ cond b (refuses tooLarge) (cond c (refuses tooLarge) (is (rowOf t)))
-    go true c p q = refl
-    go false true p q = refl
-    go false false p q = ap is (k (each (λ m. f m .size ≤ largestNumber) (ltb-false _ _ p) (ltb-false _ _ q)))
+        andThen (cond (b || c) (refuses tooLarge) (is (both f))) (λ ls. is (words ls)) ≡ rowLeaf (checked n (some t))
+    go true c p q = sym (tested true t n (rw (large mem32 ∙ p)))
+    go false true p q = sym (tested true t n (rw (large mem32 ∙ p, large mem64 ∙ q)))
+    go false false p q =
+        ap is (k (each (λ m. f m .size ≤ largestNumber) (ltb-false _ _ p) (ltb-false _ _ q)))
+        ∙ sym (tested false t n (rw (large mem32 ∙ p, large mem64 ∙ q)))

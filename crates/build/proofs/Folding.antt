@@ -7,11 +7,12 @@ use native.Mathlib.Omega.{arith}
 use lib.ListN.{length, getD}
 use lib.Seq.{drop-cons}
 use Rattle.canon.specs.Answer.{Leaf, is, no, andThen}
-use Rattle.build.specs.Steps.{refsAt, foldRefs}
+use Rattle.head.specs.Heads.{between}
+use Rattle.build.specs.Steps.{foldRefs}
 
-refs-cons : (ws : List ℕ) (at end : ℕ) → at < end → end ≤ length ws → refsAt ws at (end - at) ≡ getD ws at 0 ∷ refsAt ws (at + 1) (end - (at + 1))
-unfolding refsAt
-refs-cons ws at end h l =
+between-cons : (ws : List ℕ) (at end : ℕ) → at < end → end ≤ length ws → between ws at end ≡ getD ws at 0 ∷ between ws (at + 1) end
+unfolding between
+between-cons ws at end h l =
     let n : end - at ≡ suc (end - (at + 1)) = omega arith in
     rw (n, drop-cons ws at 0 (omega arith), add-one at)
 
@@ -25,23 +26,20 @@ module _ {A S B : Type 0} (look : ℕ → Leaf A) (step : S → A → S) (k : S 
   abbrev next : Leaf S
   next = andThen (look (getD ws at 0)) (λ a. is (step s a))
 
-  opened : at < end → end ≤ length ws → foldRefs look step (refsAt ws at (end - at)) s k ≡ andThen next (λ s′. foldRefs look step (refsAt ws (at + 1) (end - (at + 1))) s′ k)
+  opened : at < end → end ≤ length ws → foldRefs look step (between ws at end) s k ≡ andThen next (λ s′. foldRefs look step (between ws (at + 1) end) s′ k)
   unfolding foldRefs
-  opened h l = rw (refs-cons ws at end h l) (through (look (getD ws at 0)) (step s) (λ s′. foldRefs look step (refsAt ws (at + 1) (end - (at + 1))) s′ k))
+  opened h l = rw (between-cons ws at end h l) (through (look (getD ws at 0)) (step s) (λ s′. foldRefs look step (between ws (at + 1) end) s′ k))
 
   pub turn : (s′ : S) → andThen (look (getD ws at 0)) (λ a. is (step s a)) ≡ is s′ → at < end → end ≤ length ws →
-      foldRefs look step (refsAt ws at (end - at)) s k ≡ foldRefs look step (refsAt ws (at + 1) (end - (at + 1))) s′ k
+      foldRefs look step (between ws at end) s k ≡ foldRefs look step (between ws (at + 1) end) s′ k
   unfolding andThen
   turn s′ e h l = opened h l ∙ rw e
 
   pub stop : (x : ℕ) → andThen (look (getD ws at 0)) (λ a. is (step s a)) ≡ no x → at < end → end ≤ length ws →
-      foldRefs look step (refsAt ws at (end - at)) s k ≡ no x
+      foldRefs look step (between ws at end) s k ≡ no x
   unfolding andThen
   stop x e h l = opened h l ∙ rw e
 
-  pub over : end ≤ at → foldRefs look step (refsAt ws at (end - at)) s k ≡ k s
-  unfolding foldRefs refsAt
+  pub over : end ≤ at → foldRefs look step (between ws at end) s k ≡ k s
+  unfolding foldRefs between
   over h = let n : end - at ≡ 0 = omega arith in rw n
-
-pub all-refs : (ws : List ℕ) (first n : ℕ) → refsAt ws first (first + n - first) ≡ refsAt ws first n
-all-refs ws first n = let e : first + n - first ≡ n = omega arith in rw e

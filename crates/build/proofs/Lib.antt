@@ -1,6 +1,4 @@
 -- Laws: first those that the function proofs cite, then those that carry the code's steps to canon.
-pub mod HeadSizes
-pub mod Extents
 pub mod Wording
 pub mod Folding
 pub mod LookLaws
@@ -12,6 +10,7 @@ pub mod ElementLaws
 pub mod BodyLaws
 pub mod DefinitionLaws
 pub mod RunLaws
+pub mod Accepted
 pub mod Unique
 pub mod Promises
 pub mod Arms

@@ -11,10 +11,10 @@ use lib.ListN.{length, getElem?}
 use lib.Seq.{take-all}
 use borrow.Author.Tests.{ltb-true}
 use Rattle.canon.specs.Answer.{is, no as refuses, badRef, badRow}
-use Rattle.canon.specs.Types.{Ty}
+use Rattle.canon.specs.Types.{Ty, plain}
 use Rattle.canon.specs.Row.{rowOf, rowInfo, isGood}
 use Rattle.canon.specs.Table.{capacity, rowAt, putRows}
-use Rattle.canon.specs.Description.{plain, reference}
+use Rattle.canon.specs.Description.{reference}
 use Rattle.canon.specs.Question.{plainInfo, readRow, read}
 use Rattle.canon.proofs.Tests.{impossible}
 use Rattle.canon.proofs.Cells.{length-putRows}

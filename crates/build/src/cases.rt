@@ -1,13 +1,14 @@
 // Variants, enums, options and results: the payloads so far, in both memories at once.
 ghost use mathlib.Core.Path.{_≡_};
-ghost use Prim.Native.Nat.{_+_, _≤_, _<_};
+ghost use Prim.Native.Nat.{_≤_, _<_};
 ghost use lib.ListN.{length, getD};
 ghost use Rattle.canon.specs.Answer.{is, andThen};
 ghost use Rattle.types.specs.Means.{bytesOf};
 ghost use Rattle.table.specs.Means.{infoMeans};
+ghost use Rattle.head.specs.Heads.{between};
 ghost use Rattle.build.specs.Means.{payloadsMeans, joinedMeans, rowedMeans};
 ghost use Rattle.build.specs.Kinds.{variantRow, enumRow, optionRow};
-ghost use Rattle.build.specs.Steps.{noPayloads, addPayload, addCase, payloadsRow, memberLook, caseLook, foldRefs, refsAt};
+ghost use Rattle.build.specs.Steps.{noPayloads, addPayload, addCase, payloadsRow, memberLook, caseLook, foldRefs};
 use crate::reference::Payload;
 use crate::reference::case_at;
 use crate::reference::member_at;
@@ -18,18 +19,18 @@ use table::DefinitionIndex;
 use table::Found;
 use table::Info;
 use table::Inner;
-use table::NO_LAYOUT;
+use table::NO_LAYOUTS;
+use table::Reach;
 use types::DiscriminantAnswer;
 use types::DiscriminantSize;
-use types::Extent;
-use types::Layout;
+use types::Extents;
+use types::Layouts;
 use types::Refusal;
 
 pub(crate) struct Payloads {
-    in32: Layout,
-    in64: Layout,
+    layouts: Layouts,
     flat: FlatTypes,
-    borrow: bool,
+    reach: Reach,
 }
 
 pub(crate) enum Joined {
@@ -46,27 +47,25 @@ impl Payloads {
         ensures { λ r. ⌜ payloadsMeans r ≡ noPayloads ⌝ }
     {
         Payloads {
-            in32: Layout { size: 0, align: 1 },
-            in64: Layout { size: 0, align: 1 },
+            layouts: Layouts::EMPTY,
             flat: FlatTypes::EMPTY,
-            borrow: false,
+            reach: Reach::NONE,
         }
     }
 
     pub(crate) fn add(self, payload: Info) -> Payloads
         ensures { λ r. ⌜ payloadsMeans r ≡ addPayload (payloadsMeans self) (infoMeans payload) ⌝ }
     {
-        let in32 = self.in32;
-        let in64 = self.in64;
+        let layouts = self.layouts;
         let flat = self.flat;
-        let layout32 = payload.in32;
-        let layout64 = payload.in64;
+        let reach = self.reach;
+        let others = payload.layouts;
         let types = payload.flat;
+        let reached = payload.reach;
         Payloads {
-            in32: in32.widest(layout32),
-            in64: in64.widest(layout64),
+            layouts: layouts.widest(others),
             flat: flat.join(types),
-            borrow: self.borrow | payload.borrow,
+            reach: reach.join(reached),
         }
     }
 
@@ -84,45 +83,34 @@ impl Payloads {
     pub(crate) fn row(self, kind: u32, size: DiscriminantSize) -> Rowed
         ensures { λ r. ⌜ rowedMeans r ≡ payloadsRow kind (bytesOf size) (payloadsMeans self) ⌝ }
     {
-        let payload32 = self.in32;
-        let payload64 = self.in64;
+        let layouts = self.layouts;
         let flat = self.flat;
-        let in32 = Extent::variant(size, payload32);
-        let in64 = Extent::variant(size, payload64);
-        let whole32 = in32.extent;
-        let whole64 = in64.extent;
+        let reach = self.reach;
+        let step = Extents::variant(size, layouts);
+        let extents = step.extents;
         let inner = Inner {
             discriminant: size.byte_size(),
-            offset32: in32.payload_offset,
-            offset64: in64.payload_offset,
-            entry32: NO_LAYOUT,
-            entry64: NO_LAYOUT,
+            offset32: step.start32 as u32,
+            offset64: step.start64 as u32,
+            entries: NO_LAYOUTS,
         };
-        fit_row(
-            kind,
-            whole32,
-            whole64,
-            flat.with_discriminant(),
-            inner,
-            self.borrow,
-        )
+        fit_row(kind, extents, flat.with_discriminant(), inner, reach)
     }
 }
 
-// A kind whose cases are the n references or marks from `first` on.
+// A kind whose cases are the references or marks from `first` to before `end`.
 fn cases_row(
     words: &[u32],
     first: usize,
-    n: u32,
+    end: usize,
     table: &[u32],
     index: DefinitionIndex,
     kind: u32,
     size: DiscriminantSize,
 ) -> Rowed
-    requires { ⌜ first + n ≤ length (now words) ⌝ }
-    ensures { λ r. ⌜ rowedMeans r ≡ foldRefs (caseLook (memberLook (now (table .entry)) (index .0))) addCase (refsAt (now (words .entry)) first n) noPayloads (payloadsRow kind (bytesOf size)) ⌝ }
+    requires { ⌜ (first ≤ end) × (end ≤ length (now words)) ⌝ }
+    ensures { λ r. ⌜ rowedMeans r ≡ foldRefs (caseLook (memberLook (now (table .entry)) (index .0))) addCase (between (now (words .entry)) first end) noPayloads (payloadsRow kind (bytesOf size)) ⌝ }
 {
-    let end = first + n as usize;
     let mut payloads = Payloads::start();
     let mut at = first;
     while at < end {
@@ -138,17 +126,18 @@ fn cases_row(
 pub(crate) fn variant_row(
     words: &[u32],
     first: usize,
-    n: u32,
+    end: usize,
     table: &[u32],
     index: DefinitionIndex,
     kind: u32,
 ) -> Rowed
-    requires { ⌜ first + n ≤ length (now words) ⌝ }
-    ensures { λ r. ⌜ rowedMeans r ≡ variantRow kind (memberLook (now (table .entry)) (index .0)) (refsAt (now (words .entry)) first n) n ⌝ }
+    requires { ⌜ (first ≤ end) × (end ≤ length (now words)) × (length (now words) ≤ 16384) ⌝ }
+    ensures { λ r. ⌜ rowedMeans r ≡ variantRow kind (memberLook (now (table .entry)) (index .0)) (between (now (words .entry)) first end) ⌝ }
 {
-    match DiscriminantSize::from_count(n) {
+    let cases = (end - first) as u32;
+    match DiscriminantSize::from_count(cases) {
         DiscriminantAnswer::Refused(why) => Rowed::Refused(why),
-        DiscriminantAnswer::Size(size) => cases_row(words, first, n, table, index, kind, size),
+        DiscriminantAnswer::Size(size) => cases_row(words, first, end, table, index, kind, size),
     }
 }
 

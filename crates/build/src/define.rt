@@ -2,25 +2,25 @@
 ghost use mathlib.Core.Path.{_≡_};
 ghost use Prim.Native.Nat.{_≤_, _<_};
 ghost use lib.ListN.{length};
-ghost use Rattle.build.specs.Means.{headingMeans, rowedMeans, definedMeans};
-ghost use Rattle.build.specs.Heads.{Spans};
+ghost use Rattle.head.specs.Means.{headingMeans};
+ghost use Rattle.head.specs.Heads.{Spans};
+ghost use Rattle.build.specs.Means.{rowedMeans, definedMeans};
 ghost use Rattle.build.specs.Steps.{memberLook};
 ghost use Rattle.build.specs.Kinds.{kindRow, definedAt};
 use crate::cases::enum_row;
 use crate::cases::option_row;
 use crate::cases::variant_row;
-use crate::head::Head;
-use crate::head::Heading;
-use crate::head::Kind;
-use crate::head::kind_word;
-use crate::head::operands;
-use crate::head::read_head;
 use crate::members::map_row;
 use crate::members::members_row;
 use crate::row::Rowed;
 use crate::simple::fixed_row;
 use crate::simple::flags_row;
 use crate::simple::list_row;
+use head::Head;
+use head::Heading;
+use head::Kind;
+use head::kind_word;
+use head::read_head;
 use table::DefinitionIndex;
 use table::Row;
 use types::Refusal;
@@ -32,25 +32,23 @@ pub(crate) enum Defined {
 }
 
 fn kind_row(words: &[u32], heading: Heading, table: &[u32], index: DefinitionIndex) -> Rowed
-    requires { ⌜ Spans (headingMeans heading) (length (now words)) ⌝ }
+    requires { ⌜ Spans (headingMeans heading) (length (now words)) × (length (now words) ≤ 16384) ⌝ }
     ensures { λ r. ⌜ rowedMeans r ≡ kindRow (memberLook (now (table .entry)) (index .0)) (now (words .entry)) (headingMeans heading) ⌝ }
 {
     let kind = heading.kind;
     let first = heading.first;
-    let count = heading.count;
+    let end = heading.end;
     match kind {
         Kind::Record | Kind::Tuple => {
-            let n = operands(kind, count);
-            members_row(words, first, n, table, index, kind_word(kind))
+            members_row(words, first, end, table, index, kind_word(kind))
         }
         Kind::Variant | Kind::Result => {
-            let n = operands(kind, count);
-            variant_row(words, first, n, table, index, kind_word(kind))
+            variant_row(words, first, end, table, index, kind_word(kind))
         }
         Kind::List => list_row(words, first, table, index),
         Kind::Map => map_row(words, first, table, index),
-        Kind::Flags => flags_row(count),
-        Kind::Enum => enum_row(count),
+        Kind::Flags => flags_row(heading.count),
+        Kind::Enum => enum_row(heading.count),
         Kind::Option => option_row(words, first, table, index),
         Kind::FixedLengthList => fixed_row(words, first, table, index),
     }

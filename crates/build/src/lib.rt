@@ -1,7 +1,6 @@
 // From a description's words to the rows of a table, a definition after another.
 mod cases;
 mod define;
-mod head;
 mod members;
 mod reference;
 mod row;

@@ -2,34 +2,32 @@
 ghost use mathlib.Core.Path.{_≡_};
 ghost use Prim.Native.Nat.{_+_, _≤_, _<_};
 ghost use lib.ListN.{length, getD};
-ghost use Rattle.types.specs.Extents.{startExtent, memberOf, closeOf};
-ghost use Rattle.types.specs.Means.{layoutMeans};
 ghost use Rattle.table.specs.Means.{infoMeans};
+ghost use Rattle.head.specs.Heads.{between};
 ghost use Rattle.build.specs.Means.{membersMeans, rowedMeans};
-ghost use Rattle.build.specs.Steps.{noMembers, addMember, membersRow, memberLook, foldRefs, refsAt};
-ghost use Rattle.build.specs.Kinds.{valueOffset, entryRow, mapRow};
+ghost use Rattle.build.specs.Steps.{noMembers, addMember, membersRow, memberLook, foldRefs};
+ghost use Rattle.build.specs.Kinds.{entryRow, mapRow};
 use crate::reference::member_at;
 use crate::row::NO_INNER;
 use crate::row::Rowed;
 use crate::row::fit_row;
-use crate::row::layout_of;
 use crate::row::pair_row;
 use flat_types::FlatTypes;
 use table::DefinitionIndex;
 use table::Found;
 use table::Info;
 use table::Inner;
-use types::Extent;
-use types::Layout;
+use table::Reach;
+use types::Extents;
+use types::Fitted;
 use types::Refusal;
 
 const MAP: u32 = 5;
 
 pub(crate) struct Members {
-    in32: Extent,
-    in64: Extent,
+    extents: Extents,
     flat: FlatTypes,
-    borrow: bool,
+    reach: Reach,
 }
 
 impl Members {
@@ -37,60 +35,52 @@ impl Members {
         ensures { λ r. ⌜ membersMeans r ≡ noMembers ⌝ }
     {
         Members {
-            in32: Extent::start(),
-            in64: Extent::start(),
+            extents: Extents::EMPTY,
             flat: FlatTypes::EMPTY,
-            borrow: false,
+            reach: Reach::NONE,
         }
     }
 
     pub(crate) fn add(self, member: Info) -> Members
         ensures { λ r. ⌜ membersMeans r ≡ addMember (membersMeans self) (infoMeans member) ⌝ }
     {
-        let in32 = self.in32;
-        let in64 = self.in64;
+        let extents = self.extents;
         let flat = self.flat;
-        let layout32 = member.in32;
-        let layout64 = member.in64;
+        let reach = self.reach;
+        let layouts = member.layouts;
         let types = member.flat;
+        let reached = member.reach;
+        let step = extents.member(layouts);
+        let extents = step.extents;
         Members {
-            in32: in32.member(layout32),
-            in64: in64.member(layout64),
+            extents,
             flat: flat.append(types),
-            borrow: self.borrow | member.borrow,
+            reach: reach.join(reached),
         }
     }
 
     pub(crate) fn row(self, kind: u32) -> Rowed
         ensures { λ r. ⌜ rowedMeans r ≡ membersRow kind (membersMeans self) ⌝ }
     {
-        let in32 = self.in32;
-        let in64 = self.in64;
+        let extents = self.extents;
         let flat = self.flat;
-        fit_row(
-            kind,
-            in32.close(),
-            in64.close(),
-            flat,
-            NO_INNER,
-            self.borrow,
-        )
+        let reach = self.reach;
+        fit_row(kind, extents.close(), flat, NO_INNER, reach)
     }
 }
 
-// A record or a tuple of the n references from `first` on.
+// A record or a tuple of the references from `first` to before `end`.
 pub(crate) fn members_row(
     words: &[u32],
     first: usize,
-    n: u32,
+    end: usize,
     table: &[u32],
     index: DefinitionIndex,
     kind: u32,
 ) -> Rowed
-    requires { ⌜ first + n ≤ length (now words) ⌝ }
-    ensures { λ r. ⌜ rowedMeans r ≡ foldRefs (memberLook (now (table .entry)) (index .0)) addMember (refsAt (now (words .entry)) first n) noMembers (membersRow kind) ⌝ }
+    requires { ⌜ (first ≤ end) × (end ≤ length (now words)) ⌝ }
+    ensures { λ r. ⌜ rowedMeans r ≡ foldRefs (memberLook (now (table .entry)) (index .0)) addMember (between (now (words .entry)) first end) noMembers (membersRow kind) ⌝ }
 {
-    let end = first + n as usize;
     let mut members = Members::start();
     let mut at = first;
     while at < end {
@@ -103,47 +93,30 @@ pub(crate) fn members_row(
     members.row(kind)
 }
 
-// Where a value starts after a key; 0 where it does not fit.
-fn value_offset(key: Layout, value: Layout) -> u32
-    ensures { λ r. ⌜ r ≡ valueOffset (memberOf startExtent (layoutMeans key)) (layoutMeans value) ⌝ }
-{
-    let end = Extent::start().member(key).member(value);
-    if end.large {
-        return 0;
-    }
-    end.end - value.size
-}
-
-fn entry(key: Layout, value: Layout) -> Extent
-    ensures { λ r. ⌜ r ≡ closeOf (memberOf (memberOf startExtent (layoutMeans key)) (layoutMeans value)) ⌝ }
-{
-    Extent::start().member(key).member(value).close()
-}
-
-// The row of a map, by the layout of its entries.
+// The row of a map, by the layout of its entries. A value starts where it stands in an entry.
 fn entry_row(key: Info, value: Info) -> Rowed
     ensures { λ r. ⌜ rowedMeans r ≡ entryRow (infoMeans key) (infoMeans value) ⌝ }
 {
-    let key32 = key.in32;
-    let key64 = key.in64;
-    let value32 = value.in32;
-    let value64 = value.in64;
-    let entry32 = entry(key32, value32);
-    let entry64 = entry(key64, value64);
-    if entry32.large {
-        return Rowed::Refused(Refusal::TooLarge);
+    let key_layouts = key.layouts;
+    let value_layouts = value.layouts;
+    let key_reach = key.reach;
+    let value_reach = value.reach;
+    let first = Extents::EMPTY.member(key_layouts);
+    let extents = first.extents;
+    let second = extents.member(value_layouts);
+    let extents = second.extents;
+    match extents.close().fitted() {
+        Fitted::TooLarge => Rowed::Refused(Refusal::TooLarge),
+        Fitted::Layouts(entries) => {
+            let inner = Inner {
+                discriminant: 0,
+                offset32: second.start32 as u32,
+                offset64: second.start64 as u32,
+                entries,
+            };
+            pair_row(MAP, inner, key_reach.join(value_reach))
+        }
     }
-    if entry64.large {
-        return Rowed::Refused(Refusal::TooLarge);
-    }
-    let inner = Inner {
-        discriminant: 0,
-        offset32: value_offset(key32, value32),
-        offset64: value_offset(key64, value64),
-        entry32: layout_of(entry32),
-        entry64: layout_of(entry64),
-    };
-    pair_row(MAP, inner, key.borrow | value.borrow)
 }
 
 pub(crate) fn map_row(words: &[u32], first: usize, table: &[u32], index: DefinitionIndex) -> Rowed

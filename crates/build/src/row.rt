@@ -1,16 +1,21 @@
 // The row of a definition, where both memories can hold it.
 ghost use mathlib.Core.Path.{_≡_};
 ghost use Rattle.canon.specs.Answer.{is};
+ghost use Rattle.canon.specs.Row.{rowWords};
+ghost use Rattle.types.specs.Means.{layoutsMeans, extentsMeans};
+ghost use Rattle.table.specs.Means.{reachMeans};
 ghost use Rattle.build.specs.Means.{rowedMeans, flatMeans, innerMeans};
-ghost use Rattle.build.specs.Steps.{pairOf, fitRow, wordsWith, pairWords};
+ghost use Rattle.build.specs.Steps.{fitRow, pairWords};
 use flat_types::FlatTypes;
 use table::Info;
 use table::Inner;
-use table::NO_LAYOUT;
+use table::NO_LAYOUTS;
+use table::Reach;
 use table::Row;
 use types::CanonicalAbiInfo;
-use types::Extent;
-use types::Layout;
+use types::Extents;
+use types::Fitted;
+use types::Layouts;
 use types::Refusal;
 
 pub(crate) enum Rowed {
@@ -22,51 +27,48 @@ pub(crate) const NO_INNER: Inner = Inner {
     discriminant: 0,
     offset32: 0,
     offset64: 0,
-    entry32: NO_LAYOUT,
-    entry64: NO_LAYOUT,
+    entries: NO_LAYOUTS,
 };
 
-// What an extent that is closed has come to.
-pub(crate) fn layout_of(extent: Extent) -> Layout
-    ensures { λ r. ⌜ (r .size ≡ extent .end) × (r .align ≡ extent .align) ⌝ }
-{
-    Layout {
-        size: extent.end,
-        align: extent.align,
-    }
-}
-
 // The row of a list or a map.
-pub(crate) fn pair_row(kind: u32, inner: Inner, borrow: bool) -> Rowed
-    ensures { λ r. ⌜ rowedMeans r ≡ is (pairWords kind (innerMeans inner) borrow) ⌝ }
+pub(crate) fn pair_row(kind: u32, inner: Inner, reach: Reach) -> Rowed
+    ensures { λ r. ⌜ rowedMeans r ≡ is (pairWords kind (innerMeans inner) (reachMeans reach)) ⌝ }
 {
     let pair = CanonicalAbiInfo::POINTER_PAIR;
-    let info = Info::of(pair, FlatTypes::POINTER_PAIR, borrow);
+    let layouts = pair.layouts();
+    row_of(kind, layouts, FlatTypes::POINTER_PAIR, inner, reach)
+}
+
+// Joined with nothing, whatever word was read becomes a good word 15.
+pub(crate) fn row_of(
+    kind: u32,
+    layouts: Layouts,
+    flat: FlatTypes,
+    inner: Inner,
+    reach: Reach,
+) -> Rowed
+    ensures { λ r. ⌜ rowedMeans r ≡ is (rowWords kind (layoutsMeans layouts) (flatMeans flat) (innerMeans inner) (reachMeans reach)) ⌝ }
+{
+    let info = Info {
+        layouts,
+        flat,
+        reach: Reach::NONE.join(reach),
+    };
     Rowed::Row(Row { kind, info, inner })
 }
 
-// Refused where an extent is too large.
+// Refused where a memory cannot hold it.
 pub(crate) fn fit_row(
     kind: u32,
-    in32: Extent,
-    in64: Extent,
+    extents: Extents,
     flat: FlatTypes,
     inner: Inner,
-    borrow: bool,
+    reach: Reach,
 ) -> Rowed
-    ensures { λ r. ⌜ rowedMeans r ≡ fitRow (pairOf in32 in64) (λ ls. wordsWith kind ls (flatMeans flat) (innerMeans inner) borrow) ⌝ }
+    ensures { λ r. ⌜ rowedMeans r ≡ fitRow (extentsMeans extents) (λ ls. rowWords kind ls (flatMeans flat) (innerMeans inner) (reachMeans reach)) ⌝ }
 {
-    if in32.large {
-        return Rowed::Refused(Refusal::TooLarge);
+    match extents.fitted() {
+        Fitted::TooLarge => Rowed::Refused(Refusal::TooLarge),
+        Fitted::Layouts(layouts) => row_of(kind, layouts, flat, inner, reach),
     }
-    if in64.large {
-        return Rowed::Refused(Refusal::TooLarge);
-    }
-    let info = Info {
-        in32: layout_of(in32),
-        in64: layout_of(in64),
-        flat,
-        borrow,
-    };
-    Rowed::Row(Row { kind, info, inner })
 }

@@ -11,11 +11,11 @@ use crate::row::NO_INNER;
 use crate::row::Rowed;
 use crate::row::fit_row;
 use crate::row::pair_row;
+use crate::row::row_of;
 use flat_types::FlatTypes;
 use table::DefinitionIndex;
 use table::Found;
-use table::Info;
-use table::Row;
+use table::Reach;
 use types::CanonicalAbiInfo;
 use types::InfoAnswer;
 use types::Refusal;
@@ -32,7 +32,10 @@ pub(crate) fn list_row(words: &[u32], first: usize, table: &[u32], index: Defini
 {
     match member_at(table, index, words[first]) {
         Found::BadRef => Rowed::Refused(Refusal::BadRef),
-        Found::Info(element) => pair_row(LIST, NO_INNER, element.borrow),
+        Found::Info(element) => {
+            let reach = element.reach;
+            pair_row(LIST, NO_INNER, reach)
+        }
     }
 }
 
@@ -44,16 +47,15 @@ pub(crate) fn fixed_row(words: &[u32], first: usize, table: &[u32], index: Defin
     match member_at(table, index, words[first]) {
         Found::BadRef => Rowed::Refused(Refusal::BadRef),
         Found::Info(element) => {
-            let in32 = element.in32;
-            let in64 = element.in64;
+            let layouts = element.layouts;
             let flat = element.flat;
+            let reach = element.reach;
             fit_row(
                 FIXED_LENGTH_LIST,
-                in32.repeat(count),
-                in64.repeat(count),
+                layouts.repeat(count),
                 flat.repeat(count),
                 NO_INNER,
-                element.borrow,
+                reach,
             )
         }
     }
@@ -65,12 +67,14 @@ pub(crate) fn flags_row(count: u32) -> Rowed
     match CanonicalAbiInfo::flags(count) {
         InfoAnswer::Refused(why) => Rowed::Refused(why),
         InfoAnswer::Info(abi) => {
-            let info = Info::of(abi, FlatTypes::flags(count), false);
-            Rowed::Row(Row {
-                kind: FLAGS,
-                info,
-                inner: NO_INNER,
-            })
+            let layouts = abi.layouts();
+            row_of(
+                FLAGS,
+                layouts,
+                FlatTypes::flags(count),
+                NO_INNER,
+                Reach::NONE,
+            )
         }
     }
 }

@@ -1,11 +1,32 @@
--- A row that the table has is of its cells; one that it has not is of no words, and nothing is put there.
-use mathlib.Core.Path.{_≡_}
+-- A row that the table has is of its cells; one that it has not is of no words, and nothing is put there. The tests of a row, one after
+-- another, are its good form.
+use mathlib.Core.Path.{_≡_, refl, ap, _∙_}
+use mathlib.Core.Bool.{Bool, true, false, _&&_, and-assoc}
 use mathlib.Core.List.{List, []}
-use Prim.Native.Nat.{ℕ, _≤_, _<_}
-use lib.ListN.{length}
-use borrow.Author.Tests.{lt-ltb, le-ltb}
-use Rattle.canon.specs.Table.{capacity, cellsFrom, putFrom}
-use Rattle.table.specs.Rows.{rowIn, tableWith}
+use mathlib.Core.Option.{Option}
+use Prim.Native.Nat.{ℕ, zero, suc, _+_, _^_, _≤_, _<_}
+use native.Mathlib.Nat.{zero-add}
+use native.Mathlib.Omega.{arith}
+use lib.Arith.{digits-div, digits-mod}
+use lib.Dec.{leb}
+use lib.ListN.{length, getD}
+use borrow.Author.Tests.{lt-ltb, le-ltb, ne-eqb}
+use Rattle.canon.specs.Layout.{Both, Layout}
+use Rattle.canon.specs.Reach.{goodReach}
+use Rattle.canon.specs.Row.{word, rowAbi, goodLayout, goodCount, unusedZero, goodAbi, isDiscriminant, isGood}
+use Rattle.canon.specs.Table.{capacity, cell, cellsFrom, putFrom}
+use Rattle.flat_types.specs.Lists.{halves, whole}
+use Rattle.table.specs.Rows.{rowIn, tableWith, rowFlats}
+
+cells-at : (room : ℕ) (t : List ℕ) (row k n i : ℕ) → i < n → getD (cellsFrom room t row k n) i 0 ≡ cell room t row (k + i)
+unfolding cellsFrom
+cells-at room t row k zero i h = absurd (omega arith)
+cells-at room t row k (suc n) zero h = ap (cell room t row) (omega arith)
+cells-at room t row k (suc n) (suc i) h = cells-at room t row (suc k) n i (omega arith) ∙ ap (cell room t row) (omega arith)
+
+-- two words in one number are found again
+pub halves-whole : (b : Both ℕ) → b .in32 < 2 ^ 32 → halves (whole b) ≡ b
+halves-whole b h = rw (digits-mod (b .in64) h, digits-div (b .in64) h)
 
 module _ (t : List ℕ) (room j : ℕ) (e : room ≡ capacity (length t)) where
   pub row-there : j < room → rowIn t j ≡ cellsFrom room t j 0 16
@@ -16,6 +37,9 @@ module _ (t : List ℕ) (room j : ℕ) (e : room ≡ capacity (length t)) where
   unfolding rowIn
   row-missing h = rw (← e, le-ltb j room h)
 
+  pub word-there : (k : ℕ) → k < 16 → j < room → word (rowIn t j) k ≡ cell room t j k
+  word-there k l h = rw (row-there h) (cells-at room t j 0 16 k l ∙ ap (cell room t j) (zero-add k))
+
   pub put-there : (ws : List ℕ) → j < room → tableWith t j ws ≡ putFrom room j 0 ws t
   unfolding tableWith
   put-there ws h = rw (← e, lt-ltb j room h)
@@ -23,3 +47,38 @@ module _ (t : List ℕ) (room j : ℕ) (e : room ≡ capacity (length t)) where
   pub put-missing : (ws : List ℕ) → room ≤ j → tableWith t j ws ≡ t
   unfolding tableWith
   put-missing ws h = rw (← e, le-ltb j room h)
+
+-- The good form, as the tests go
+
+pub discriminant-is : (d : ℕ) → (d ≡ 3 → ⊥) → d ≤ 4 → isDiscriminant d ≡ true
+unfolding isDiscriminant
+discriminant-is zero h l = refl
+discriminant-is (suc zero) h l = refl
+discriminant-is (suc (suc zero)) h l = refl
+discriminant-is (suc (suc (suc zero))) h l = absurd (h refl)
+discriminant-is (suc (suc (suc (suc zero)))) h l = refl
+discriminant-is (suc (suc (suc (suc (suc d))))) h l = absurd (omega arith)
+
+pub discriminant-over : (d : ℕ) → 4 < d → isDiscriminant d ≡ false
+unfolding isDiscriminant
+discriminant-over d l =
+    rw (ne-eqb d 0 (λ e. omega arith), ne-eqb d 1 (λ e. omega arith), ne-eqb d 2 (λ e. omega arith), ne-eqb d 4 (λ e. omega arith))
+
+abbrev pub goodLayouts : Both Layout → Bool
+goodLayouts b = goodLayout (b .in32) && goodLayout (b .in64)
+
+abbrev pub goodTypes : Option ℕ → Both ℕ → Bool
+goodTypes c b = goodCount c && (unusedZero c (b .in32) && unusedZero c (b .in64))
+
+unfoldable pub tested : List ℕ → Bool
+tested r =
+    leb 1 (word r 0)
+    && (leb (word r 0) 10
+    && (goodLayouts (rowAbi r .layouts)
+    && (goodTypes (rowAbi r .flats) (rowFlats r)
+    && (isDiscriminant (word r 8)
+    && goodReach (word r 15)))))
+
+pub tested-good : (r : List ℕ) → isGood r ≡ tested r
+unfolding isGood tested goodAbi
+tested-good r = simp and-assoc

@@ -1,5 +1,6 @@
 -- The references without a definition, one by one.
 use mathlib.Core.Path.{_≡_, refl, ap, _∙_}
+use mathlib.Core.Bool.{Bool, true, false, _||_}
 use mathlib.Core.List.{List, [], _∷_}
 use mathlib.Core.Option.{Option, none, some}
 use Prim.Native.Nat.{ℕ, zero, suc, _≤_, _<_}
@@ -7,19 +8,20 @@ use native.Mathlib.Omega.{arith}
 use lib.Dec.{eqb}
 use lib.ListN.{length, getElem?}
 use Rattle.canon.specs.Answer.{is, lift}
-use Rattle.canon.specs.Types.{Ty}
+use Rattle.canon.specs.Types.{Ty, plain}
 use Rattle.canon.specs.Layout.{Memory, mem32, mem64, within, square, layout}
 use Rattle.canon.specs.Flat.{flatten, flatCount}
-use Rattle.canon.specs.Borrow.{borrows}
-use Rattle.canon.specs.Description.{plain}
+use Rattle.canon.specs.Reach.{reach}
 use Rattle.canon.specs.Pack.{Packed}
-use Rattle.canon.specs.Row.{countWord, countOf, flatWord, infoOf}
+use Rattle.canon.specs.Row.{countWord, countOf, infoOf, rowFlat, typeFlat}
 use Rattle.canon.proofs.Rows.{countOf-countWord, flatCount-small}
 use Rattle.canon.specs.Question.{plainInfo}
-use Rattle.flat_types.specs.Lists.{packed, wordsIn}
+use Rattle.canon.proofs.Tests.{impossible}
+use Rattle.canon.proofs.Reaches.{word-back}
+use Rattle.flat_types.specs.Lists.{halves, packed, wordsIn}
 use Rattle.flat_types.proofs.References.{below}
-use Rattle.flat_types.proofs.Rows.{rowWords, plain-words}
-use Rattle.table.specs.Means.{Plain, infoMeans}
+use Rattle.flat_types.proofs.Rows.{plain-words}
+use Rattle.table.specs.Means.{Plain, reachMeans, reachOf, infoMeans}
 use Rattle.table.specs.declared.info.Info.{Info}
 
 -- a scalar of n bytes, in either memory
@@ -36,80 +38,33 @@ as-wide k n e = (wide, e .1)
 
 -- the scalars of one, two and eight bytes and String have their own arm; every other one has four
 
-abbrev Rest : ℕ → Type 0
-Rest k = (k ≡ 0 → ⊥) → (k ≡ 1 → ⊥) → (k ≡ 2 → ⊥) → (k ≡ 3 → ⊥) → (k ≡ 4 → ⊥) → (k ≡ 7 → ⊥) → (k ≡ 8 → ⊥) → (k ≡ 10 → ⊥) → (k ≡ 12 → ⊥) → Sized 4 k
+unfoldable pub armed : ℕ → Bool
+armed k = eqb k 0 || (eqb k 1 || (eqb k 2 || (eqb k 3 || (eqb k 4 || (eqb k 7 || (eqb k 8 || (eqb k 10 || eqb k 12)))))))
 
-four : {k : ℕ} → Sized 4 k → Rest k
-four e a b c d f g h i j = e
+abbrev Rest : ℕ → Type 0
+Rest k = armed k ≡ false → Sized 4 k
+
+own : {A : Type 0} → true ≡ false → A
+own e = impossible (cc)
+
+four : {A : Type 0} → A → false ≡ false → A
+four a e = a
 
 pub rest-is-four : (k : ℕ) → k ≤ 17 → Rest k
-unfolding layout flatCount
+unfolding armed layout flatCount
 rest-is-four k h =
-    below Rest 18 (
-      λ a b c d e f g i s. absurd (a refl),
-      (
-        λ a b c d e f g i s. absurd (b refl),
-        (
-          λ a b c d e f g i s. absurd (c refl),
-          (
-            λ a b c d e f g i s. absurd (d refl),
-            (
-              λ a b c d e f g i s. absurd (e refl),
-              (
-                four (λ m. refl, refl),
-                (
-                  four (λ m. refl, refl),
-                  (
-                    λ a b c d e f g i s. absurd (f refl),
-                    (
-                      λ a b c d e f g i s. absurd (g refl),
-                      (
-                        four (λ m. refl, refl),
-                        (
-                          λ a b c d e f g i s. absurd (i refl),
-                          (
-                            four (λ m. refl, refl),
-                            (
-                              λ a b c d e f g i s. absurd (s refl),
-                              (
-                                four (λ m. refl, refl),
-                                (
-                                  four (λ m. refl, refl),
-                                  (
-                                    four (λ m. refl, refl),
-                                    (
-                                      four (λ m. refl, refl),
-                                      (
-                                        four (λ m. refl, refl),
-                                        tt,
-                                      ),
-                                    ),
-                                  ),
-                                ),
-                              ),
-                            ),
-                          ),
-                        ),
-                      ),
-                    ),
-                  ),
-                ),
-              ),
-            ),
-          ),
-        ),
-      ),
-    )
+    below Rest 18
+    (own, (own, (own, (own, (own, (four (λ m. refl, refl), (four (λ m. refl, refl), (own, (own, (four (λ m. refl, refl), (own, (four (λ m. refl, refl), (own, (four (λ m. refl, refl), (four (λ m. refl, refl), (four (λ m. refl, refl), (four (λ m. refl, refl), (four (λ m. refl, refl), tt))))))))))))))))))
     k (omega arith)
 
--- only Borrow borrows
-abbrev Borrowed : ℕ → Type 0
-Borrowed k = lift borrows (getElem? plain k) ≡ some (eqb k 14)
+-- only Borrow is a borrow
+abbrev Reached : ℕ → Type 0
+Reached k = lift reach (getElem? plain k) ≡ some (record { borrow = eqb k 14 })
 
-pub borrowed : (k : ℕ) → k ≤ 17 → Borrowed k
-unfolding borrows
-borrowed k h =
-    below Borrowed 18
+reached : (k : ℕ) → k ≤ 17 → Reached k
+unfolding reach
+reached k h =
+    below Reached 18
     (refl, (refl, (refl, (refl, (refl, (refl, (refl, (refl, (refl, (refl, (refl, (refl, (refl, (refl, (refl, (refl, (refl, (refl, tt))))))))))))))))))
     k (omega arith)
 
@@ -134,17 +89,17 @@ string-is {k} e = (wide, rw e)
     wide mem32 = rw e
     wide mem64 = rw e
 
--- an info is a type's where its layouts, its flat words and its borrow are
+-- an info is a type's where its layouts, its flat words and its reach are
 pub info-is :
     (i : Info) (t : Ty) →
     ((m : Memory) → layout m t ≡ within m (infoMeans i .abi .layouts)) →
-    ((m : Memory) → wordsIn m (i .flat) ≡ rowWords (flatCount t) (flatten m t)) →
-    borrows t ≡ i .borrow →
+    ((m : Memory) → wordsIn m (i .flat) ≡ rowFlat (flatCount t) (flatten m t)) →
+    reach t ≡ reachMeans (i .reach) →
     infoMeans i ≡ infoOf t
 info-is i t l f b =
     let n : i .flat .count ≡ countWord (flatCount t) = ap (λ (p : Packed). p .number) (f mem32) in
-    let w32 : i .flat .memory32 ≡ flatWord (flatCount t) (flatten mem32 t) = ap (λ (p : Packed). p .types) (f mem32) in
-    let w64 : i .flat .memory64 ≡ flatWord (flatCount t) (flatten mem64 t) = ap (λ (p : Packed). p .types) (f mem64) in
+    let w32 : halves (i .flat .words) .in32 ≡ typeFlat mem32 t .types = ap (λ (p : Packed). p .types) (f mem32) in
+    let w64 : halves (i .flat .words) .in64 ≡ typeFlat mem64 t .types = ap (λ (p : Packed). p .types) (f mem64) in
     let c : countOf (i .flat .count) ≡ flatCount t = ap countOf n ∙ countOf-countWord (flatCount t) (flatCount-small t) in
     simp (l mem32, l mem64, c, w32, w64, b)
 
@@ -154,7 +109,7 @@ pub plain-is :
     k ≤ 17 →
     ((m : Memory) → lift (layout m) (getElem? plain k) ≡ some (within m (infoMeans i .abi .layouts))) →
     ((m : Memory) → wordsIn m (i .flat) ≡ packed (lift (flatten m) (getElem? plain k))) →
-    i .borrow ≡ eqb k 14 →
+    i .reach ≡ reachOf (record { borrow = eqb k 14 }) →
     is (infoMeans i) ≡ plainInfo (getElem? plain k)
 unfolding plainInfo
 plain-is i k h l f b = go (getElem? plain k) refl (there k h)
@@ -165,4 +120,6 @@ plain-is i k h l f b = go (getElem? plain k) refl (there k h)
         ap is
         (info-is i t (λ m. let q : some (layout m t) ≡ some (within m (infoMeans i .abi .layouts)) = rw e at (l m) in cc)
         (λ m. f m ∙ plain-words m k t e)
-        (let q : some (borrows t) ≡ some (eqb k 14) = rw e at (borrowed k h) in cc))
+        (let q : some (reach t) ≡ some (record { borrow = eqb k 14 }) = rw e at (reached k h) in
+        let w : reachMeans (i .reach) ≡ record { borrow = eqb k 14 } = ap reachMeans b ∙ word-back (record { borrow = eqb k 14 }) in
+        cc))

@@ -1,74 +1,111 @@
 -- No second outcome meets a promise, in the answer or in the lent table.
-use mathlib.Core.Bool.{Bool}
-use mathlib.Core.Path.{_≡_, sym, ap, _∙_}
+use mathlib.Core.Bool.{Bool, true}
+use mathlib.Core.Path.{_≡_, refl, sym, ap, ap₂, _∙_}
 use mathlib.Core.List.{List}
 use Prim.Native.Nat.{ℕ}
-use native.Mathlib.Omega.{arith}
 use contract.Lifetimes.{Lfts}
 use denote.Ref.{RefT, at-last}
+use Rattle.canon.specs.Reach.{reachWord, wordReach, goodReach}
 use Rattle.canon.specs.Row as canon
 use Rattle.canon.specs.Row.{countWord}
 use Rattle.canon.proofs.Rows.{countWord-countOf}
+use Rattle.canon.proofs.Reaches.{reach-back}
+use Rattle.canon.proofs.Tests.{impossible}
+use Rattle.types.specs.Means.{layoutMeans}
 use Rattle.types.proofs.Told.{told}
-use Rattle.types.specs.declared.info.CanonicalAbiInfo.{CanonicalAbiInfo}
-use Rattle.flat_types.specs.declared.both.FlatTypes.{FlatTypes}
-use Rattle.table.specs.Means.{infoMeans, foundMeans}
+use Rattle.types.specs.declared.extent.Layout.{Layout}
+use Rattle.types.specs.declared.memory.Memory.{Memory}
+use Rattle.flat_types.specs.Lists.{words, whole}
+use Rattle.flat_types.proofs.Halves.{whole-halves}
+use Rattle.flat_types.specs.declared.list.FlatList.{FlatList}
+use Rattle.table.specs.Means.{infoMeans, foundMeans, foundGood}
 use Rattle.table.specs.declared.info.DefinitionIndex.{DefinitionIndex}
 use Rattle.table.specs.declared.info.Info.{Info}
 use Rattle.table.specs.declared.plain.Found.{Found}
 use Rattle.table.specs.declared.plain.Found.the-variants as found
-use Rattle.table.specs.declared.row.Marks.{Marks}
+use Rattle.table.specs.declared.reach.Reach.{Reach}
 use Rattle.table.specs.declared.row.Row.{Row}
 use Rattle.table.proofs.cells.capacity.Reads as capacity
-use Rattle.table.proofs.info.Info.of.Reads as info-of
 use Rattle.table.proofs.plain.plain_info.Reads as plain-info
+use Rattle.table.proofs.reach.Reach.is_borrow.Reads as is-borrow
+use Rattle.table.proofs.reach.Reach.is_good.Reads as is-good
+use Rattle.table.proofs.reach.Reach.join.Reads as join
+use Rattle.table.proofs.read.is_good_row.Reads as is-good-row
+use Rattle.table.proofs.read.row_flat.Reads as row-flat
+use Rattle.table.proofs.read.row_info.Reads as row-info
+use Rattle.table.proofs.read.row_kind.Reads as row-kind
+use Rattle.table.proofs.read.row_layout.Reads as row-layout
+use Rattle.table.proofs.read.row_reach.Reads as row-reach
 use Rattle.table.proofs.row.put_row.Reads as put-row
-use Rattle.table.proofs.row.row_info.Reads as row-info
-use Rattle.table.proofs.row.row_marks.Reads as row-marks
 
--- an info from its meaning
-abbrev back : canon.Info → Info
-back x =
+-- an info from its meaning and its word 15
+abbrev back : ℕ → canon.Info → Info
+back w x =
     record {
-      in32 = record { size = x .abi .layouts .in32 .size; align = x .abi .layouts .in32 .align };
-      in64 = record { size = x .abi .layouts .in64 .size; align = x .abi .layouts .in64 .align };
-      flat = record { count = countWord (x .abi .flats); memory32 = x .flatWords .in32; memory64 = x .flatWords .in64 };
-      borrow = x .borrow;
+      layouts =
+          record {
+            in32 = record { size = x .abi .layouts .in32 .size; align = x .abi .layouts .in32 .align };
+            in64 = record { size = x .abi .layouts .in64 .size; align = x .abi .layouts .in64 .align };
+          };
+      flat = record { count = countWord (x .abi .flats); words = whole (x .flatWords) };
+      reach = record { 0 = w };
     }
 
-back-again : (i : Info) → back (infoMeans i) ≡ i
+back-again : (i : Info) → back (i .reach .0) (infoMeans i) ≡ i
 back-again i =
-    ap (λ (n : ℕ). record { in32 = i .in32; in64 = i .in64; flat = record { count = n; memory32 = i .flat .memory32; memory64 = i .flat .memory64 }; borrow = i .borrow })
-    (countWord-countOf (i .flat .count))
+    ap₂ (λ (n w : ℕ). record { layouts = i .layouts; flat = record { count = n; words = w }; reach = i .reach })
+    (countWord-countOf (i .flat .count)) (whole-halves (i .flat .words))
 
-pub same-info : (i j : Info) → infoMeans i ≡ infoMeans j → i ≡ j
-same-info = told infoMeans back back-again
+same-info : (i j : Info) → infoMeans i ≡ infoMeans j → i .reach .0 ≡ j .reach .0 → i ≡ j
+same-info i j e w = sym (back-again i) ∙ ap₂ back w e ∙ back-again j
 
-pub same-found : (f g : Found) → foundMeans f ≡ foundMeans g → f ≡ g
-same-found (found.Info i) (found.Info j) e = let m : infoMeans i ≡ infoMeans j = cc in ap found.Info (same-info i j m)
-same-found (found.Info i) found.BadRef e = let z : _≡_ {A = ℕ} 0 1 = cc in absurd (omega arith)
-same-found found.BadRef (found.Info j) e = let z : _≡_ {A = ℕ} 0 1 = cc in absurd (omega arith)
-same-found found.BadRef found.BadRef e = λ i. found.BadRef
+-- a good word 15 is told by what it means
+good-one : (v w : ℕ) → wordReach v ≡ wordReach w → goodReach v ≡ true → goodReach w ≡ true → v ≡ w
+good-one v w e g h = sym (reach-back v g) ∙ ap reachWord e ∙ reach-back w h
+
+same-found : (f g : Found) → foundMeans f ≡ foundMeans g → foundGood f ≡ true → foundGood g ≡ true → f ≡ g
+same-found (found.Info i) (found.Info j) e a b =
+    let m : infoMeans i ≡ infoMeans j = cc in
+    ap found.Info (same-info i j m (good-one (i .reach .0) (j .reach .0) (ap (λ (x : canon.Info). x .reach) m) a b))
+same-found (found.Info i) found.BadRef e a b = impossible (cc)
+same-found found.BadRef (found.Info j) e a b = impossible (cc)
+same-found found.BadRef found.BadRef e a b = refl
 
 pub capacity-one : (n r q : ℕ) → capacity.Post tt (n, tt) r (n, tt) → capacity.Post tt (n, tt) q (n, tt) → r ≡ q
 capacity-one n r q g h = g .0 ∙ sym (h .0)
 
-pub info-of-one :
-    (a : CanonicalAbiInfo) (f : FlatTypes) (b : Bool) (r q : Info) →
-    info-of.Post tt (a, (f, (b, tt))) r (a, (f, (b, tt))) →
-    info-of.Post tt (a, (f, (b, tt))) q (a, (f, (b, tt))) →
-    r ≡ q
-info-of-one a f b r q g h = g ∙ sym h
+pub is-borrow-one : (x : Reach) (r q : Bool) → is-borrow.Post tt (x, tt) r (x, tt) → is-borrow.Post tt (x, tt) q (x, tt) → r ≡ q
+is-borrow-one x r q g h = g ∙ sym h
+
+pub join-one : (x y r q : Reach) → join.Post tt (x, (y, tt)) r (x, (y, tt)) → join.Post tt (x, (y, tt)) q (x, (y, tt)) → r ≡ q
+join-one x y r q g h = g ∙ sym h
+
+pub is-good-one : (x : Reach) (r q : Bool) → is-good.Post tt (x, tt) r (x, tt) → is-good.Post tt (x, tt) q (x, tt) → r ≡ q
+is-good-one x r q g h = g ∙ sym h
 
 pub plain-info-one : (w : ℕ) (r q : Found) → plain-info.Post tt (w, tt) r (w, tt) → plain-info.Post tt (w, tt) q (w, tt) → r ≡ q
-plain-info-one w r q g h = same-found r q (g ∙ sym h)
+plain-info-one w r q g h = same-found r q (g .0 ∙ sym (h .0)) (g .1) (h .1)
 
 module _ (κs : Lfts 1) (t : RefT (List ℕ)) (j : DefinitionIndex) where
   pub row-info-one : (r q : Info) → row-info.Post κs (t, (j, tt)) r (t, (j, tt)) → row-info.Post κs (t, (j, tt)) q (t, (j, tt)) → r ≡ q
-  row-info-one r q g h = same-info r q (g ∙ sym h)
+  row-info-one r q g h = same-info r q (g .0 ∙ sym (h .0)) (g .1 ∙ sym (h .1))
 
-  pub row-marks-one : (r q : Marks) → row-marks.Post κs (t, (j, tt)) r (t, (j, tt)) → row-marks.Post κs (t, (j, tt)) q (t, (j, tt)) → r ≡ q
-  row-marks-one r q g h = g ∙ sym h
+  pub row-kind-one : (r q : ℕ) → row-kind.Post κs (t, (j, tt)) r (t, (j, tt)) → row-kind.Post κs (t, (j, tt)) q (t, (j, tt)) → r ≡ q
+  row-kind-one r q g h = g ∙ sym h
+
+  pub row-reach-one : (r q : Reach) → row-reach.Post κs (t, (j, tt)) r (t, (j, tt)) → row-reach.Post κs (t, (j, tt)) q (t, (j, tt)) → r ≡ q
+  row-reach-one r q g h = g ∙ sym h
+
+  pub is-good-row-one : (r q : Bool) → is-good-row.Post κs (t, (j, tt)) r (t, (j, tt)) → is-good-row.Post κs (t, (j, tt)) q (t, (j, tt)) → r ≡ q
+  is-good-row-one r q g h = g ∙ sym h
+
+  pub row-layout-one :
+      (m : Memory) (r q : Layout) → row-layout.Post κs (t, (j, (m, tt))) r (t, (j, (m, tt))) → row-layout.Post κs (t, (j, (m, tt))) q (t, (j, (m, tt))) → r ≡ q
+  row-layout-one m r q g h = told layoutMeans (λ f. record { size = f .size; align = f .align }) (λ f. refl) r q (g ∙ sym h)
+
+  pub row-flat-one :
+      (m : Memory) (r q : FlatList) → row-flat.Post κs (t, (j, (m, tt))) r (t, (j, (m, tt))) → row-flat.Post κs (t, (j, (m, tt))) q (t, (j, (m, tt))) → r ≡ q
+  row-flat-one m r q g h = told words (λ p. record { count = p .number; types = p .types }) (λ p. refl) r q (g ∙ sym h)
 
   pub put-row-one :
       (row : Row) (l k : List ℕ) →

@@ -1,12 +1,15 @@
 // What the references without a definition stand for: the scalars, String and the handles.
 ghost use mathlib.Core.Path.{_≡_};
+ghost use mathlib.Core.Bool.{true};
 ghost use Prim.Native.Nat.{_≤_};
+ghost use lib.Dec.{eqb};
 ghost use lib.ListN.{getElem?};
-ghost use Rattle.canon.specs.Description.{plain};
 ghost use Rattle.canon.specs.Question.{plainInfo};
+ghost use Rattle.canon.specs.Types.{plain};
 ghost use Rattle.types.specs.Means.{abiMeans};
-ghost use Rattle.table.specs.Means.{Plain, foundMeans};
+ghost use Rattle.table.specs.Means.{Plain, foundMeans, foundGood, reachOf};
 use crate::info::Info;
+use crate::reach::Reach;
 use flat_types::FlatTypes;
 use types::CanonicalAbiInfo;
 
@@ -37,12 +40,26 @@ fn abi(reference: u32) -> CanonicalAbiInfo
     }
 }
 
+fn reach(reference: u32) -> Reach
+    ensures { λ r. ⌜ r ≡ reachOf (record { borrow = eqb reference 14 }) ⌝ }
+{
+    if reference == BORROW {
+        Reach::BORROW
+    } else {
+        Reach::NONE
+    }
+}
+
 pub fn plain_info(reference: u32) -> Found
-    ensures { λ r. ⌜ foundMeans r ≡ plainInfo (getElem? plain reference) ⌝ }
+    ensures { λ r. ⌜ (foundMeans r ≡ plainInfo (getElem? plain reference)) × (foundGood r ≡ true) ⌝ }
 {
     if LAST < reference {
         return Found::BadRef;
     }
-    let flat = FlatTypes::plain(reference);
-    Found::Info(Info::of(abi(reference), flat, reference == BORROW))
+    let abi = abi(reference);
+    Found::Info(Info {
+        layouts: abi.layouts(),
+        flat: FlatTypes::plain(reference),
+        reach: reach(reference),
+    })
 }

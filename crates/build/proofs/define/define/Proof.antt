@@ -1,5 +1,10 @@
 -- The head, then the row of its kind.
+use mathlib.Core.Path.{sym, ap, _∙_}
+use native.Mathlib.Omega.{arith}
+use denote.Ref.{now}
 use Rattle.canon.specs.Answer.{andThen}
+use Rattle.head.specs.Means.{headMeans}
+use Rattle.head.proofs.Laws.{head-spans}
 use Rattle.build.specs.Kinds.{definedAt}
 use borrow.Author.Needs.{needs}
 use Rattle.build.proofs.define.define.Statement.{statement}
@@ -15,7 +20,9 @@ enum-known-heading : tie.Need-enum-known-heading
 enum-known-heading c = search needs
 
 kind-row-requires : tie.Need-kind-row-requires
-kind-row-requires c κs = rw (c .before .heading .given .1) at (c .before .before .before .read-head .ensures .1)
+kind-row-requires c κs =
+    let a = c .before .before .before .before .before .before .args in
+    (head-spans (now (a .words)) (a .at) _ (sym (c .before .before .before .read-head .ensures) ∙ ap headMeans (c .before .heading .given .1)) .1, omega arith)
 
 enum-known-why-2 : tie.Need-enum-known-why-2
 enum-known-why-2 c = search needs
@@ -25,15 +32,15 @@ enum-known-row c = search needs
 
 returns : tie.Need-returns
 unfolding definedAt andThen
-returns c = simp (← c .before .before .before .read-head .ensures .0, c .before .why .given .1)
+returns c = simp (← c .before .before .before .read-head .ensures, c .before .why .given .1)
 
 returns-2 : tie.Need-returns-2
 unfolding definedAt andThen
-returns-2 c = simp (← c .before .before .before .before .before .before .before .read-head .ensures .0, c .before .before .before .before .before .heading .given .1, ← c .before .before .before .kind-row .ensures, c .before .why2 .given .1)
+returns-2 c = simp (← c .before .before .before .before .before .before .before .read-head .ensures, c .before .before .before .before .before .heading .given .1, ← c .before .before .before .kind-row .ensures, c .before .why2 .given .1)
 
 returns-3 : tie.Need-returns-3
 unfolding definedAt andThen
-returns-3 c = simp (← c .before .before .before .before .before .before .before .read-head .ensures .0, c .before .before .before .before .before .heading .given .1, ← c .before .before .before .kind-row .ensures, c .before .row .given .1)
+returns-3 c = simp (← c .before .before .before .before .before .before .before .read-head .ensures, c .before .before .before .before .before .heading .given .1, ← c .before .before .before .kind-row .ensures, c .before .row .given .1)
 
 pub define-spec : {M : Type 1} → statement M
 define-spec =

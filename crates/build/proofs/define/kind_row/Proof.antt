@@ -9,17 +9,11 @@ use borrow.Author.Needs.{needs}
 use Rattle.build.proofs.define.kind_row.Statement.{statement}
 use Rattle.build.proofs.define.kind_row.Tie as tie
 
-operands-requires : tie.Need-operands-requires
-operands-requires c κs = search needs
-
 kind-word-requires : tie.Need-kind-word-requires
 kind-word-requires c κs = search needs
 
 members-row-requires : tie.Need-members-row-requires
 members-row-requires c κs = search needs
-
-operands-requires-2 : tie.Need-operands-requires-2
-operands-requires-2 c κs = search needs
 
 kind-word-requires-2 : tie.Need-kind-word-requires-2
 kind-word-requires-2 c κs = search needs
@@ -31,13 +25,17 @@ enum-told : tie.Need-enum-told
 enum-told c = search needs
 
 list-row-requires : tie.Need-list-row-requires
-list-row-requires c κs = omega (arith, rw (c .enum-told .given .1) at (c .before .before .before .before .pre .0), c .before .before .before .before .pre .1)
+list-row-requires c κs =
+    let s = c .before .before .before .before .pre .0 in
+    omega (arith, rw (c .enum-told .given .1) at (s .references), rw (c .enum-told .given .1) at (s .numbers))
 
 enum-told-2 : tie.Need-enum-told-2
 enum-told-2 c = search needs
 
 map-row-requires : tie.Need-map-row-requires
-map-row-requires c κs = omega (arith, rw (c .enum-told2 .given .1) at (c .before .before .before .before .pre .0), c .before .before .before .before .pre .1)
+map-row-requires c κs =
+    let s = c .before .before .before .before .pre .0 in
+    omega (arith, rw (c .enum-told2 .given .1) at (s .references), rw (c .enum-told2 .given .1) at (s .numbers))
 
 enum-told-3 : tie.Need-enum-told-3
 enum-told-3 c = search needs
@@ -55,25 +53,29 @@ enum-told-5 : tie.Need-enum-told-5
 enum-told-5 c = search needs
 
 option-row-requires : tie.Need-option-row-requires
-option-row-requires c κs = omega (arith, rw (c .enum-told5 .given .1) at (c .before .before .before .before .pre .0), c .before .before .before .before .pre .1)
+option-row-requires c κs =
+    let s = c .before .before .before .before .pre .0 in
+    omega (arith, rw (c .enum-told5 .given .1) at (s .references), rw (c .enum-told5 .given .1) at (s .numbers))
 
 enum-told-6 : tie.Need-enum-told-6
 enum-told-6 c = search needs
 
 fixed-row-requires : tie.Need-fixed-row-requires
-fixed-row-requires c κs = omega (arith, rw (c .enum-told6 .given .1) at (c .before .before .before .before .pre .0), c .before .before .before .before .pre .1)
+fixed-row-requires c κs =
+    let s = c .before .before .before .before .pre .0 in
+    omega (arith, rw (c .enum-told6 .given .1) at (s .references), rw (c .enum-told6 .given .1) at (s .numbers))
 
 returns : tie.Need-returns
 returns c =
-    let a = c .before .before .before .before .before .before .args in
-    rw (c .before .kind-word .ensures, c .before .before .operands .ensures) at (c .members-row .ensures)
-    ∙ members-arm (memberLook (now (a .table)) (a .index .0)) (now (a .words)) (a .heading .count) (a .heading .first) (a .heading .kind) (c .before .before .before .match .keys1)
+    let a = c .before .before .before .before .before .args in
+    rw (c .before .kind-word .ensures) at (c .members-row .ensures)
+    ∙ members-arm (memberLook (now (a .table)) (a .index .0)) (now (a .words)) (a .heading .count) (a .heading .first) (a .heading .end) (a .heading .kind) (c .before .before .match .keys1)
 
 returns-2 : tie.Need-returns-2
 returns-2 c =
-    let a = c .before .before .before .before .before .before .args in
-    rw (c .before .kind-word2 .ensures, c .before .before .operands2 .ensures) at (c .variant-row .ensures)
-    ∙ cases-arm (memberLook (now (a .table)) (a .index .0)) (now (a .words)) (a .heading .count) (a .heading .first) (a .heading .kind) (c .before .before .before .match .keys2)
+    let a = c .before .before .before .before .before .args in
+    rw (c .before .kind-word2 .ensures) at (c .variant-row .ensures)
+    ∙ cases-arm (memberLook (now (a .table)) (a .index .0)) (now (a .words)) (a .heading .count) (a .heading .first) (a .heading .end) (a .heading .kind) (c .before .before .match .keys2)
 
 returns-3 : tie.Need-returns-3
 unfolding rowOfKind
@@ -103,10 +105,8 @@ pub kind-row-spec : {M : Type 1} → statement M
 kind-row-spec =
     tie.close
     (tie.spec
-    operands-requires
     kind-word-requires
     members-row-requires
-    operands-requires-2
     kind-word-requires-2
     variant-row-requires
     enum-told

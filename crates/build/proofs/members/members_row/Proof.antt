@@ -1,25 +1,23 @@
 -- The loop: what is left of the references, from the state so far, gives the whole (Folding).
 use Rattle.build.proofs.Wording.{one, none-found}
+use Rattle.head.specs.Heads.{between}
 use Rattle.build.specs.Means.{membersMeans}
-use Rattle.build.specs.Steps.{foldRefs, refsAt, memberLook, noMembers, addMember, membersRow}
+use Rattle.build.specs.Steps.{foldRefs, memberLook, noMembers, addMember, membersRow}
 use denote.Ref.{now}
 use mathlib.Core.Path.{_≡_, sym, _∙_}
-use Prim.Native.Nat.{_+_, _-_, _≤_}
+use Prim.Native.Nat.{_-_, _≤_}
 use native.Mathlib.Omega.{arith}
 use lib.ListN.{length}
 use borrow.Author.Needs.{needs}
-use Rattle.build.proofs.Folding.{turn, stop, over, all-refs}
+use Rattle.build.proofs.Folding.{turn, stop, over}
 use Rattle.build.proofs.members.members_row.Statement.{statement}
 use Rattle.build.proofs.members.members_row.Tie as tie
 
 abbrev Inv-loop : tie.InvT-loop
-Inv-loop words first n table index kind end members₀ at₀ members at = (first ≤ at) × (at ≤ end) × (end ≤ length words) × (foldRefs (memberLook table (index .0)) addMember (refsAt words at (end - at)) (membersMeans members) (membersRow kind) ≡ foldRefs (memberLook table (index .0)) addMember (refsAt words first n) noMembers (membersRow kind))
+Inv-loop words first end table index kind members₀ at₀ members at = (first ≤ at) × (at ≤ end) × (end ≤ length words) × (foldRefs (memberLook table (index .0)) addMember (between words at end) (membersMeans members) (membersRow kind) ≡ foldRefs (memberLook table (index .0)) addMember (between words first end) noMembers (membersRow kind))
 
 abbrev μ-loop : tie.MeasureT-loop
-μ-loop words first n table index kind end members₀ at₀ members at = end - at
-
-add-end : tie.Need-add-end Inv-loop μ-loop
-add-end c = search needs
+μ-loop words first end table index kind members₀ at₀ members at = end - at
 
 start-requires : tie.Need-start-requires Inv-loop μ-loop
 start-requires c κs = search needs
@@ -29,7 +27,7 @@ loop-holds c =
     let a = c .before .before .before .args in
     let look = memberLook (now (a .table)) (a .index .0) in
     let row = membersRow (a .kind) in
-    (omega arith, omega arith, c .before .before .before .pre, rw (c .start .ensures, all-refs (now (a .words)) (a .first) (a .n)))
+    (omega arith, omega arith, omega arith, rw (c .start .ensures))
 
 mul-member-at : tie.Need-mul-member-at Inv-loop μ-loop
 mul-member-at c = search needs
@@ -49,7 +47,7 @@ returns c =
     let look = memberLook (now (a .table)) (a .index .0) in
     let row = membersRow (a .kind) in
     let l = c .before .before .before .before .before .loop in
-    sym (stop look addMember row (now (a .words)) (l .at) (a .first + a .n) (membersMeans (l .members)) 4 (none-found _ _ _ (c .before .before .member-at .ensures) (c .enum-told .given .1)) (omega arith) (omega arith)) ∙ l .inv .3
+    sym (stop look addMember row (now (a .words)) (l .at) (a .end) (membersMeans (l .members)) 4 (none-found _ _ _ (c .before .before .member-at .ensures) (c .enum-told .given .1)) (omega arith) (omega arith)) ∙ l .inv .3
 
 enum-known-member : tie.Need-enum-known-member Inv-loop μ-loop
 enum-known-member c = search needs
@@ -72,7 +70,7 @@ loop-again c =
       omega arith,
       omega arith,
       omega arith,
-      sym (turn look addMember row (now (a .words)) (l .at) (a .first + a .n) (membersMeans (l .members)) _ (one _ _ _ _ _ (c .before .before .before .before .member-at .ensures) (c .before .before .member .given .1) (c .add .ensures)) (omega arith) (omega arith)) ∙ l .inv .3,
+      sym (turn look addMember row (now (a .words)) (l .at) (a .end) (membersMeans (l .members)) _ (one _ _ _ _ _ (c .before .before .before .before .member-at .ensures) (c .before .before .member .given .1) (c .add .ensures)) (omega arith) (omega arith)) ∙ l .inv .3,
     )
 
 row-requires : tie.Need-row-requires Inv-loop μ-loop
@@ -84,7 +82,7 @@ returns-2 c =
     let look = memberLook (now (a .table)) (a .index .0) in
     let row = membersRow (a .kind) in
     let l = c .before .before .loop in
-    c .row .ensures ∙ sym (over look addMember row (now (a .words)) (l .at) (a .first + a .n) (membersMeans (l .members)) (omega arith)) ∙ l .inv .3
+    c .row .ensures ∙ sym (over look addMember row (now (a .words)) (l .at) (a .end) (membersMeans (l .members)) (omega arith)) ∙ l .inv .3
 
 pub members-row-spec : {M : Type 1} → statement M
 members-row-spec =
@@ -92,7 +90,6 @@ members-row-spec =
     (tie.spec
     Inv-loop
     μ-loop
-    add-end
     start-requires
     loop-holds
     mul-member-at

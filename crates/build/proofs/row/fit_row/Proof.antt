@@ -1,39 +1,31 @@
--- The tests of the two extents, then the words.
-use Rattle.canon.specs.Answer.{is}
-use Rattle.build.specs.Steps.{pairOf, wordsWith}
-use Rattle.build.specs.Means.{flatMeans, innerMeans}
+-- Too large, or the words of the two layouts.
+use Rattle.canon.specs.Answer.{andThen}
 use Rattle.build.specs.Steps.{fitRow}
 use borrow.Author.Needs.{needs}
 use Rattle.build.proofs.row.fit_row.Statement.{statement}
 use Rattle.build.proofs.row.fit_row.Tie as tie
 
+fitted-requires : tie.Need-fitted-requires
+fitted-requires c κs = search needs
+
+enum-told : tie.Need-enum-told
+enum-told c = search needs
+
+enum-known-layouts : tie.Need-enum-known-layouts
+enum-known-layouts c = search needs
+
+row-of-requires : tie.Need-row-of-requires
+row-of-requires c κs = search needs
+
 returns : tie.Need-returns
-unfolding fitRow
-returns c = simp
-    (c .if1 .taken)
+unfolding fitRow andThen
+returns c = simp (← c .before .before .fitted .ensures, c .enum-told .given .1)
 
 returns-2 : tie.Need-returns-2
-unfolding fitRow
-returns-2 c = simp (
-  c .if2 .taken,
-  c .before .if1 .left,
-)
-
-layout-of-requires : tie.Need-layout-of-requires
-layout-of-requires c κs = search needs
-
-layout-of-requires-2 : tie.Need-layout-of-requires-2
-layout-of-requires-2 c κs = search needs
-
-returns-3 : tie.Need-returns-3
-unfolding fitRow
-returns-3 c =
-    let a = c .before .before .before .before .args in
-    let s32 = c .before .layout-of .ensures in
-    let s64 = c .layout-of2 .ensures in
-    rw (c .before .before .before .if1 .left, c .before .before .if2 .left)
-    (λ i. is (wordsWith (a .kind) (pairOf (record { size = s32 .0 i; align = s32 .1 i }) (record { size = s64 .0 i; align = s64 .1 i })) (flatMeans (a .flat)) (innerMeans (a .inner)) (a .borrow)))
+unfolding fitRow andThen
+returns-2 c = simp (c .row-of .ensures, ← c .before .before .before .before .fitted .ensures, c .before .before .layouts .given .1)
 
 pub fit-row-spec : {M : Type 1} → statement M
 fit-row-spec =
-    tie.close (tie.spec returns returns-2 layout-of-requires layout-of-requires-2 returns-3)
+    tie.close
+    (tie.spec fitted-requires enum-told enum-known-layouts row-of-requires returns returns-2)

@@ -1,17 +1,20 @@
 -- A bad reference, or both extents and the repeated types.
-use Rattle.canon.specs.Layout.{both}
+use Rattle.canon.specs.Layout.{Memory, mem32, mem64, both}
 use Rattle.canon.specs.Row.{noInner}
 use denote.Ref.{now}
-use Prim.Native.Nat.{_+_}
+use Prim.Native.Nat.{_+_, _*_}
 use lib.ListN.{getD}
 use Rattle.canon.specs.Answer.{lift, andThen}
 use Rattle.canon.specs.Flat.{copies}
-use Rattle.flat_types.specs.Lists.{unpacked, packed}
+use Rattle.canon.specs.Pack.{Packed}
+use Rattle.flat_types.specs.Lists.{unpacked, packed, memoryWords, wordsIn}
 use Rattle.table.specs.Means.{infoMeans, foundMeans}
-use Rattle.build.specs.Steps.{infoWords, memberLook}
-use Rattle.build.proofs.Wording.{pair-same, flat-same, words-kept, fit-same, then-is}
+use Rattle.types.specs.Extents.{extentAt}
+use Rattle.types.specs.Means.{extentsMeans}
+use Rattle.build.specs.Steps.{pairOf, infoLayout, infoFlat, memberLook}
+use Rattle.build.proofs.Wording.{flat-kept, fit-same, then-is}
 use Rattle.build.specs.Kinds.{fixedRow}
-use mathlib.Core.Path.{refl, sym, ap, _∙_}
+use mathlib.Core.Path.{_≡_, refl, sym, ap, _∙_}
 use borrow.Author.Needs.{needs}
 use Rattle.build.proofs.simple.fixed_row.Statement.{statement}
 use Rattle.build.proofs.simple.fixed_row.Tie as tie
@@ -46,28 +49,24 @@ repeat-requires c κs = search needs
 repeat-requires-2 : tie.Need-repeat-requires-2
 repeat-requires-2 c κs = search needs
 
-repeat-requires-3 : tie.Need-repeat-requires-3
-repeat-requires-3 c κs = search needs
-
 fit-row-requires : tie.Need-fit-row-requires
 fit-row-requires c κs = search needs
 
 returns : tie.Need-returns
 unfolding andThen fixedRow
-returns c = simp
-    (← c .before .before .member-at .ensures, c .enum-told .given .1)
+returns c = simp (← c .before .before .member-at .ensures, c .enum-told .given .1)
 
 returns-2 : tie.Need-returns-2
 unfolding fixedRow
 returns-2 c =
-    let i = c .before .before .before .before .before .before .before .before .element .given in
-    let a = c .before .before .before .before .before .before .before .before .before .before .before .before .before .before .before .args in
+    let i = c .before .before .before .before .before .before .before .element .given in
+    let a = c .before .before .before .before .before .before .before .before .before .before .before .before .before .before .args in
     let n = getD (now (a .words)) (a .first + 1) 0 in
+    let ends : extentsMeans (c .before .before .repeat .result) ≡ both (λ m. extentAt (infoLayout m (infoMeans (i .0 .0)) .size * n) (infoLayout m (infoMeans (i .0 .0)) .align)) = rw (c .before .before .repeat .ensures) in
+    let words : (m : Memory) → wordsIn m (c .before .repeat2 .result) ≡ packed (lift (copies n) (unpacked (memoryWords m (infoFlat (infoMeans (i .0 .0)))))) = λ m. c .before .repeat2 .ensures m ∙ ap (λ (p : Packed). packed (lift (copies n) (unpacked (memoryWords m p)))) (sym (flat-kept (i .0 .0))) in
     c .fit-row .ensures
-    ∙ fit-same {ns = both (λ m. noInner)} 10 (i .0 .0 .borrow) (pair-same (c .before .before .before .repeat .ensures) (c .before .before .repeat2 .ensures))
-    (flat-same (c .before .repeat3 .result) (λ m. packed (lift (copies n) (unpacked (infoWords m (infoMeans (i .0 .0)))))) (λ m. rw (words-kept m (i .0 .0)) (c .before .repeat3 .ensures m)))
-    refl
-    ∙ sym (then-is (memberLook (now (a .table)) (a .index .0) (getD (now (a .words)) (a .first) 0)) (infoMeans (i .0 .0)) (fixedRow n) (sym (c .before .before .before .before .before .before .before .before .before .before .member-at .ensures) ∙ ap foundMeans (i .1)))
+    ∙ fit-same {ns = both (λ m. noInner)} 10 ends (λ j. pairOf (words mem32 j) (words mem64 j)) refl refl
+    ∙ sym (then-is (memberLook (now (a .table)) (a .index .0) (getD (now (a .words)) (a .first) 0)) (infoMeans (i .0 .0)) (fixedRow n) (sym (c .before .before .before .before .before .before .before .before .before .member-at .ensures) ∙ ap foundMeans (i .1)))
 
 pub fixed-row-spec : {M : Type 1} → statement M
 fixed-row-spec =
@@ -83,7 +82,6 @@ fixed-row-spec =
     enum-known-element
     repeat-requires
     repeat-requires-2
-    repeat-requires-3
     fit-row-requires
     returns
     returns-2)

@@ -25,16 +25,11 @@ pair-row-requires c κs = search needs
 
 returns : tie.Need-returns
 unfolding andThen listRow
-returns c = simp
-    (← c .before .before .member-at .ensures, c .enum-told .given .1)
+returns c = simp (← c .before .before .member-at .ensures, c .enum-told .given .1)
 
 returns-2 : tie.Need-returns-2
 unfolding andThen listRow
-returns-2 c = simp (
-  c .pair-row .ensures,
-  ← c .before .before .before .before .member-at .ensures,
-  c .before .before .element .given .1,
-)
+returns-2 c = simp (c .pair-row .ensures, ← c .before .before .before .before .before .member-at .ensures, c .before .before .before .element .given .1)
 
 pub list-row-spec : {M : Type 1} → statement M
 list-row-spec =

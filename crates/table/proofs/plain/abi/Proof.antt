@@ -1,8 +1,10 @@
 -- Each arm's constant has the type's numbers in both memories (`as-wide`, `string-is`); the other scalars have four bytes.
-use mathlib.Core.Path.{refl}
+use mathlib.Core.Path.{_≡_, refl}
+use mathlib.Core.Bool.{false}
+use borrow.Author.Tests.{ne-eqb}
 use Rattle.canon.specs.Flat.{flatCount}
 use Rattle.canon.specs.Layout.{layout}
-use Rattle.table.proofs.References.{as-wide, rest-is-four, string-is}
+use Rattle.table.proofs.References.{as-wide, armed, rest-is-four, string-is}
 use Rattle.table.proofs.plain.abi.Statement.{statement}
 use Rattle.table.proofs.plain.abi.Tie as tie
 
@@ -42,9 +44,23 @@ returns-9 : tie.Need-returns-9
 returns-9 c = string-is (c .match .keys9)
 
 returns-10 : tie.Need-returns-10
+unfolding armed
 returns-10 c =
     let k = c .before .args .reference in
-    as-wide k 4 (rest-is-four k (c .before .pre) (c .match .rest .0 .0 .0 .0 .0 .0 .0 .0 .1) (c .match .rest .0 .0 .0 .0 .0 .0 .0 .1) (c .match .rest .0 .0 .0 .0 .0 .0 .1) (c .match .rest .0 .0 .0 .0 .0 .1) (c .match .rest .0 .0 .0 .0 .1) (c .match .rest .0 .0 .0 .1) (c .match .rest .0 .0 .1) (c .match .rest .0 .1) (c .match .rest .1))
+    let r = c .match .rest in
+    let e : armed k ≡ false =
+    rw (
+      ne-eqb k 0 (r .0 .0 .0 .0 .0 .0 .0 .0 .1),
+      ne-eqb k 1 (r .0 .0 .0 .0 .0 .0 .0 .1),
+      ne-eqb k 2 (r .0 .0 .0 .0 .0 .0 .1),
+      ne-eqb k 3 (r .0 .0 .0 .0 .0 .1),
+      ne-eqb k 4 (r .0 .0 .0 .0 .1),
+      ne-eqb k 7 (r .0 .0 .0 .1),
+      ne-eqb k 8 (r .0 .0 .1),
+      ne-eqb k 10 (r .0 .1),
+      ne-eqb k 12 (r .1),
+    ) in
+    as-wide k 4 (rest-is-four k (c .before .pre) e)
 
 pub abi-spec : {M : Type 1} → statement M
 abi-spec =

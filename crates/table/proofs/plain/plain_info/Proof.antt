@@ -1,9 +1,11 @@
--- The reference's layouts, flat words and borrow make its info (`plain-is`); past the last there is none.
+-- The reference's layouts, flat words and reach make its info (`plain-is`); past the last there is none.
 use mathlib.Core.Path.{refl}
 use native.Mathlib.Omega.{arith}
-use Rattle.canon.specs.Description.{plain}
+use lib.Dec.{eqb}
+use Rattle.canon.specs.Types.{plain}
 use Rattle.canon.specs.Question.{plainInfo}
 use Rattle.flat_types.proofs.References.{past}
+use Rattle.canon.proofs.Reaches.{good-word}
 use Rattle.table.proofs.References.{plain-is}
 use borrow.Author.Needs.{needs}
 use Rattle.table.proofs.plain.plain_info.Statement.{statement}
@@ -11,21 +13,28 @@ use Rattle.table.proofs.plain.plain_info.Tie as tie
 
 returns : tie.Need-returns
 unfolding plainInfo
-returns c = rw (past plain (c .before .args .reference) (omega arith))
-
-plain-requires : tie.Need-plain-requires
-plain-requires c κs = search needs
+returns c = (rw (past plain (c .before .args .reference) (omega arith)), refl)
 
 abi-requires : tie.Need-abi-requires
 abi-requires c κs = search needs
 
-of-requires : tie.Need-of-requires
-of-requires c κs = search needs
+layouts-requires : tie.Need-layouts-requires
+layouts-requires c κs = search needs
+
+plain-requires : tie.Need-plain-requires
+plain-requires c κs = search needs
+
+reach-requires : tie.Need-reach-requires
+reach-requires c κs = search needs
 
 returns-2 : tie.Need-returns-2
-returns-2 c =
-    let k = c .before .before .before .before .args .reference in
-    rw (c .of .ensures) (plain-is _ k (omega arith) (c .before .abi .ensures .0) (c .before .before .plain .ensures) refl)
+returns-2 c = let k = c .before .before .before .before .before .args .reference in (
+  rw (c .before .before .layouts .ensures)
+      (plain-is _ k (omega arith) (c .before .before .before .abi .ensures .0) (c .before .plain .ensures) (c .reach .ensures)),
+  rw (c .reach .ensures) (good-word (record { borrow = eqb k 14 })),
+)
 
 pub plain-info-spec : {M : Type 1} → statement M
-plain-info-spec = tie.close (tie.spec returns plain-requires abi-requires of-requires returns-2)
+plain-info-spec =
+    tie.close
+    (tie.spec returns abi-requires layouts-requires plain-requires reach-requires returns-2)

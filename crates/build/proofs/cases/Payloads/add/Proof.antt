@@ -1,14 +1,15 @@
--- The widest in each memory, the types joined.
+-- The widest in both memories, the types joined, and what either reaches.
 use mathlib.Core.Path.{_≡_}
-use mathlib.Core.Bool.{_||_}
-use Rattle.canon.specs.Answer.{lift2}
-use Rattle.canon.specs.Flat.{joinLists}
-use Rattle.canon.specs.Layout.{Memory, within}
-use Rattle.flat_types.specs.Lists.{wordsIn, unpacked, packed}
-use Rattle.table.specs.Means.{infoMeans}
-use Rattle.build.specs.Means.{flatMeans}
-use Rattle.build.specs.Steps.{infoWords, addPayload}
-use Rattle.build.proofs.Wording.{pair-same, flat-same, in-memory, words-kept}
+use Rattle.canon.specs.Layout.{both, within}
+use Rattle.canon.specs.Reach.{joinReach}
+use Rattle.canon.proofs.Reaches.{word-back}
+use Rattle.types.specs.Extents.{widest}
+use Rattle.types.specs.Means.{layoutsMeans}
+use Rattle.flat_types.specs.Lists.{bothWords}
+use Rattle.flat_types.specs.Places.{joined}
+use Rattle.table.specs.Means.{infoMeans, reachMeans}
+use Rattle.build.specs.Steps.{infoLayout, infoFlat, addPayload}
+use Rattle.build.proofs.Wording.{flat-kept}
 use borrow.Author.Needs.{needs}
 use Rattle.build.proofs.cases.Payloads.add.Statement.{statement}
 use Rattle.build.proofs.cases.Payloads.add.Tie as tie
@@ -16,23 +17,21 @@ use Rattle.build.proofs.cases.Payloads.add.Tie as tie
 widest-requires : tie.Need-widest-requires
 widest-requires c κs = search needs
 
-widest-requires-2 : tie.Need-widest-requires-2
-widest-requires-2 c κs = search needs
-
 join-requires : tie.Need-join-requires
 join-requires c κs = search needs
+
+join-requires-2 : tie.Need-join-requires-2
+join-requires-2 c κs = search needs
 
 returns : tie.Need-returns
 unfolding addPayload
 returns c =
-    let a = c .before .before .before .before .before .before .before .before .before .before .before .args in
-    let words : (m : Memory) → wordsIn m (c .before .before .join .result) ≡ packed (lift2 joinLists (unpacked (within m (flatMeans (a .self .flat)))) (unpacked (infoWords m (infoMeans (a .payload))))) =
-    λ m. rw (in-memory m (a .self .flat), words-kept m (a .payload)) (c .before .before .join .ensures m) in
-    λ i. record {
-      layouts = pair-same (c .before .before .before .before .widest .ensures) (c .before .before .before .widest2 .ensures) i;
-      flats = flat-same (c .before .before .join .result) _ words i;
-      borrow = a .self .borrow || a .payload .borrow;
-    }
+    let a = c .before .before .before .before .before .before .before .before .before .args in
+    let wider = c .before .before .widest in
+    let room : layoutsMeans (wider .result) ≡ both (λ m. widest (within m (layoutsMeans (a .self .layouts))) (infoLayout m (infoMeans (a .payload)))) = wider .ensures in
+    let words : bothWords (c .before .join .result) ≡ joined (bothWords (a .self .flat)) (infoFlat (infoMeans (a .payload))) = rw (flat-kept (a .payload)) (c .before .join .ensures) in
+    let reached : reachMeans (c .join2 .result) ≡ joinReach (reachMeans (a .self .reach)) (reachMeans (a .payload .reach)) = rw (c .join2 .ensures) (word-back _) in
+    λ i. record { layouts = room i; flat = words i; reach = reached i }
 
 pub add-spec : {M : Type 1} → statement M
-add-spec = tie.close (tie.spec widest-requires widest-requires-2 join-requires returns)
+add-spec = tie.close (tie.spec widest-requires join-requires join-requires-2 returns)

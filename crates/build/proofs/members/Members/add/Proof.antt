@@ -1,14 +1,15 @@
--- The step in each memory, the types behind those so far.
+-- The step in both memories, the types behind those so far, and what either reaches.
 use mathlib.Core.Path.{_≡_}
-use mathlib.Core.Bool.{_||_}
-use mathlib.Core.List.{_++_}
-use Rattle.canon.specs.Answer.{lift2}
-use Rattle.canon.specs.Layout.{Memory, within}
-use Rattle.flat_types.specs.Lists.{wordsIn, unpacked, packed}
-use Rattle.table.specs.Means.{infoMeans}
-use Rattle.build.specs.Means.{flatMeans}
-use Rattle.build.specs.Steps.{infoWords, addMember}
-use Rattle.build.proofs.Wording.{pair-same, flat-same, in-memory, words-kept}
+use Rattle.canon.specs.Layout.{both, within}
+use Rattle.canon.specs.Reach.{joinReach}
+use Rattle.canon.proofs.Reaches.{word-back}
+use Rattle.types.specs.Extents.{memberOf}
+use Rattle.types.specs.Means.{extentsMeans}
+use Rattle.flat_types.specs.Lists.{bothWords}
+use Rattle.flat_types.specs.Places.{appendTo}
+use Rattle.table.specs.Means.{infoMeans, reachMeans}
+use Rattle.build.specs.Steps.{infoLayout, infoFlat, addMember}
+use Rattle.build.proofs.Wording.{flat-kept}
 use borrow.Author.Needs.{needs}
 use Rattle.build.proofs.members.Members.add.Statement.{statement}
 use Rattle.build.proofs.members.Members.add.Tie as tie
@@ -16,23 +17,21 @@ use Rattle.build.proofs.members.Members.add.Tie as tie
 member-requires : tie.Need-member-requires
 member-requires c κs = search needs
 
-member-requires-2 : tie.Need-member-requires-2
-member-requires-2 c κs = search needs
-
 append-requires : tie.Need-append-requires
 append-requires c κs = search needs
+
+join-requires : tie.Need-join-requires
+join-requires c κs = search needs
 
 returns : tie.Need-returns
 unfolding addMember
 returns c =
-    let a = c .before .before .before .before .before .before .before .before .before .before .before .args in
-    let words : (m : Memory) → wordsIn m (c .before .before .append .result) ≡ packed (lift2 _++_ (unpacked (within m (flatMeans (a .self .flat)))) (unpacked (infoWords m (infoMeans (a .member))))) =
-    λ m. rw (in-memory m (a .self .flat), words-kept m (a .member)) (c .before .before .append .ensures m) in
-    λ i. record {
-      extents = pair-same (c .before .before .before .before .member .ensures) (c .before .before .before .member2 .ensures) i;
-      flats = flat-same (c .before .before .append .result) _ words i;
-      borrow = a .self .borrow || a .member .borrow;
-    }
+    let a = c .before .before .before .before .before .before .before .before .before .before .args in
+    let step = c .before .before .before .member in
+    let ends : extentsMeans (step .result .extents) ≡ both (λ m. memberOf (within m (extentsMeans (a .self .extents))) (infoLayout m (infoMeans (a .member))) .extent) = rw (step .ensures) in
+    let words : bothWords (c .before .append .result) ≡ appendTo 16 (bothWords (a .self .flat)) (infoFlat (infoMeans (a .member))) = rw (flat-kept (a .member)) (c .before .append .ensures) in
+    let reached : reachMeans (c .join .result) ≡ joinReach (reachMeans (a .self .reach)) (reachMeans (a .member .reach)) = rw (c .join .ensures) (word-back _) in
+    λ i. record { extents = ends i; flat = words i; reach = reached i }
 
 pub add-spec : {M : Type 1} → statement M
-add-spec = tie.close (tie.spec member-requires member-requires-2 append-requires returns)
+add-spec = tie.close (tie.spec member-requires append-requires join-requires returns)

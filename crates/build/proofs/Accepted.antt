@@ -1,0 +1,124 @@
+-- What a build accepts: every type of it fits both memories, its row stands at its index, and a record's or tuple's layout is the tightest.
+use mathlib.Core.Path.{_≡_, refl, sym, _∙_}
+use mathlib.Core.Bool.{Bool, true, false, cond, _||_}
+use mathlib.Core.List.{List, [], _∷_, _++_, map}
+use mathlib.Core.Option.{Option, none, some}
+use Prim.Native.Nat.{ℕ, zero, suc, _<_}
+use native.Mathlib.Omega.{arith}
+use lib.Dec.{ltb}
+use lib.ListN.{length, getD, take, getElem?, length-map}
+use borrow.Author.Tests.{ltb-false}
+use Rattle.canon.specs.Answer.{Leaf, is, no as refuses, tooLarge}
+use Rattle.canon.specs.Types.{Ty, recordOf, tupleOf, Members, Kind}
+use Rattle.canon.specs.Layout.{Memory, mem32, mem64, within, largestNumber, starts, recordSize, recordLayout, layout, members}
+use Rattle.canon.specs.Placement.{Every}
+use Rattle.canon.specs.Row.{rowAbi, rowOf}
+use Rattle.canon.specs.Table.{capacity, rowAt}
+use Rattle.canon.specs.Description.{kindOf, shapeOf, bodyLength, isBadCount, typeOf, isTooLarge, Defined, checked, bodied, buildFrom, mostWords, build, built, tableAfter}
+use Rattle.canon.proofs.Tests.{impossible}
+use Rattle.canon.proofs.Alignments.{members-aligned}
+use Rattle.canon.proofs.Tightest.{greatestAlign-least, ours, tightest}
+use Rattle.canon.proofs.Sizes.{tooLarge-size}
+use Rattle.canon.proofs.Cells.{room-fits, length-putRows, row-at}
+use Rattle.canon.proofs.Built.{build-keeps, built-sound, every-sixteen}
+use Rattle.canon.proofs.Refusals.{Product, aRecord, aTuple, Tightest}
+
+-- Every accepted type fits
+
+abbrev Fits : Ty → Type 0
+Fits t = isTooLarge mem32 t || isTooLarge mem64 t ≡ false
+
+passed : (b : Bool) (x : ℕ) (l : Leaf Defined) (d : Defined) → cond b (refuses x) l ≡ is d → (b ≡ false) × (l ≡ is d)
+passed true x l d e = absurd (impossible (cc))
+passed false x l d e = (refl, e)
+
+checked-fits : (n : ℕ) (o : Option Ty) (d : Defined) → checked n o ≡ is d → Fits (d .type)
+unfolding checked
+checked-fits n none d e = impossible (cc)
+checked-fits n (some t) d e =
+    let p = passed (isTooLarge mem32 t || isTooLarge mem64 t) tooLarge _ d e in
+    let q : record { type = t; length = n } ≡ d = cc in
+    rw (← q) (p .0)
+
+define-fits : (ts : List Ty) (o : Option Kind) (ws : List ℕ) (d : Defined) → bodied ts o ws ≡ is d → Fits (d .type)
+unfolding bodied
+define-fits ts none ws d e = impossible (cc)
+define-fits ts (some k) ws d e =
+    checked-fits (bodyLength (shapeOf k) (getD ws 0 0)) (typeOf ts k (take (bodyLength (shapeOf k) (getD ws 0 0)) ws)) d
+    (passed (isBadCount k (getD ws 0 0)) _ _ d (passed (ltb (length ws) (bodyLength (shapeOf k) (getD ws 0 0))) _ _ d e .1) .1)
+
+every-snoc : (ts : List Ty) (t : Ty) → Every Fits ts → Fits t → Every Fits (ts ++ t ∷ [])
+every-snoc [] t v d = (d, tt)
+every-snoc (u ∷ ts) t v d = (v .0, every-snoc ts t (v .1) d)
+
+all-fit : (ws t : List ℕ) → Every Fits (built ws t .types)
+unfolding build
+all-fit ws t = go (ltb mostWords (length ws))
+  where
+    go : (b : Bool) → Every Fits (cond b (record { types = []; stopped = some 1 }) (buildFrom (capacity (length t)) [] ws) .types)
+    go true = tt
+    go false =
+        build-keeps (λ room ts. Every Fits ts) (λ room ts w vs d e h. every-snoc ts (d .type) h (define-fits ts (kindOf w) vs d e))
+        (capacity (length t)) [] ws tt .1
+
+-- Its row
+
+-- the type at a place fits, and so does its row
+record There (ts : List Ty) (i : ℕ) (t : Ty) : Type 0 where
+  inside : i < length ts
+  row : getD (map rowOf ts) i [] ≡ rowOf t
+  fits : Fits t
+
+there : (ts : List Ty) (i : ℕ) (t : Ty) → Every Fits ts → getElem? ts i ≡ some t → There ts i t
+there [] i t v e = impossible (cc)
+there (u ∷ ts) zero t v e = let p : u ≡ t = cc in rw (← p) (record { inside = omega arith; row = refl; fits = v .0 })
+there (u ∷ ts) (suc i) t v e =
+    let r = there ts i t (v .1) e in
+    record { inside = omega (arith, r .inside); row = r .row; fits = r .fits }
+
+module _ (ws t : List ℕ) (i : ℕ) (u : Ty) (accepted : getElem? (built ws t .types) i ≡ some u) where
+  found : There (built ws t .types) i u
+  found = there (built ws t .types) i u (all-fit ws t) accepted
+
+  pub row-is : rowAt (tableAfter ws t) i ≡ rowOf u
+  unfolding tableAfter
+  row-is =
+      let ts = built ws t .types in
+      rw (length-putRows (capacity (length t)) 0 (map rowOf ts) t)
+      (row-at (capacity (length t)) (length t) (map rowOf ts) t i (room-fits (length t) .1) (every-sixteen ts)
+      (omega (arith, built-sound ws t .fits, length-map ts rowOf)) refl (omega (arith, found .inside, length-map ts rowOf))
+      ∙ found .row)
+
+  pub fits-in : (m : Memory) → isTooLarge m u ≡ false
+  fits-in m = go m (isTooLarge mem32 u) (isTooLarge mem64 u) refl refl (found .fits)
+    where
+      go : (m : Memory) (b c : Bool) → isTooLarge mem32 u ≡ b → isTooLarge mem64 u ≡ c → b || c ≡ false → isTooLarge m u ≡ false
+      go m true c p q h = impossible (cc)
+      go mem32 false c p q h = p
+      go mem64 false c p q h = q ∙ h
+
+-- Its layout
+
+pub row-layout : (m : Memory) (t : Ty) → within m (rowAbi (rowOf t) .layouts) ≡ layout m t
+unfolding rowOf
+row-layout mem32 t = refl
+row-layout mem64 t = refl
+
+fitting : (us : Members) (m : Memory) → ltb largestNumber (recordSize (members m us)) ≡ false →
+    Tightest (members m us) (record { layout = recordLayout (members m us); offsets = starts 0 (members m us) })
+fitting us m h =
+    let w = members-aligned m us in
+    record {
+      placement = ours (members m us) w (omega (arith, ltb-false largestNumber (recordSize (members m us)) h));
+      alignment = greatestAlign-least (members m us) w;
+      noneTighter = λ ss size p. tightest w p;
+    }
+
+-- a record or tuple that fits is laid out as tightly as can be
+pub product-tightest :
+    {k : Kind} {type : Members → Ty} → Product k type → (us : Members) (m : Memory) →
+    isTooLarge m (type us) ≡ false →
+    Tightest (members m us) (record { layout = layout m (type us); offsets = starts 0 (members m us) })
+unfolding layout
+product-tightest aRecord us m h = fitting us m (sym (tooLarge-size m (recordOf us)) ∙ h)
+product-tightest aTuple us m h = fitting us m (sym (tooLarge-size m (tupleOf us)) ∙ h)

@@ -1,0 +1,152 @@
+// The head of a definition: its kind, its count, where its references stand and where the next definition begins. Nothing that the
+// body says is tested here: neither a count nor a reference.
+ghost use mathlib.Core.Path.{_≡_};
+ghost use Prim.Native.Nat.{_*_, _/_, _%_, _^_, _≤_};
+ghost use lib.ListN.{length};
+ghost use Rattle.canon.specs.Description.{kindOf};
+ghost use Rattle.head.specs.Means.{kindMeans, kindedMeans, headMeans};
+ghost use Rattle.canon.specs.Types.{kindWord};
+ghost use Rattle.canon.specs.Description.{shapeOf, bodyLength};
+ghost use Rattle.head.specs.Heads.{before, behind, bodyAt, headAt};
+use types::Refusal;
+
+pub enum Kind {
+    Record,
+    Variant,
+    List,
+    Tuple,
+    Map,
+    Flags,
+    Enum,
+    Option,
+    Result,
+    FixedLengthList,
+}
+
+enum Kinded {
+    Kind(Kind),
+    Bad,
+}
+
+// The references stand from `first` to before `end`, the next definition from `next` on. `count` is the word after the kind word,
+// whatever it means there.
+pub struct Heading {
+    pub kind: Kind,
+    pub count: u32,
+    pub first: usize,
+    pub end: usize,
+    pub next: usize,
+}
+
+pub enum Head {
+    Is(Heading),
+    Refused(Refusal),
+}
+
+// The shapes of the ten bodies, two bits for each kind word, 10 in front and 0 last: 1 where a count stands first, ..
+const COUNTED: u32 = 0b00_00_00_00_00_00_01_00_01_01_00;
+
+// .. the numbers behind the references, ..
+const NUMBERS: u32 = 0b01_00_00_01_01_00_00_00_00_00_00;
+
+// .. and the words of the whole body but for references that are counted.
+const LENGTHS: u32 = 0b10_10_01_01_01_10_01_01_01_01_00;
+
+fn kind_of(word: u32) -> Kinded
+    ensures { λ r. ⌜ kindedMeans r ≡ kindOf word ⌝ }
+{
+    match word {
+        1 => Kinded::Kind(Kind::Record),
+        2 => Kinded::Kind(Kind::Variant),
+        3 => Kinded::Kind(Kind::List),
+        4 => Kinded::Kind(Kind::Tuple),
+        5 => Kinded::Kind(Kind::Map),
+        6 => Kinded::Kind(Kind::Flags),
+        7 => Kinded::Kind(Kind::Enum),
+        8 => Kinded::Kind(Kind::Option),
+        9 => Kinded::Kind(Kind::Result),
+        10 => Kinded::Kind(Kind::FixedLengthList),
+        _ => Kinded::Bad,
+    }
+}
+
+// The kind word, which is the first word of a row too.
+pub fn kind_word(kind: Kind) -> u32
+    ensures { λ r. ⌜ r ≡ kindWord (kindMeans kind) ⌝ }
+{
+    match kind {
+        Kind::Record => 1,
+        Kind::Variant => 2,
+        Kind::List => 3,
+        Kind::Tuple => 4,
+        Kind::Map => 5,
+        Kind::Flags => 6,
+        Kind::Enum => 7,
+        Kind::Option => 8,
+        Kind::Result => 9,
+        Kind::FixedLengthList => 10,
+    }
+}
+
+// The two bits of a kind.
+fn bits(packed: u32, kind: Kind) -> usize
+    ensures { λ r. ⌜ r ≡ packed / 2 ^ (2 * kindWord (kindMeans kind)) % 4 ⌝ }
+{
+    let shift = 2 * kind_word(kind);
+    ((packed >> shift) % 4) as usize
+}
+
+fn before_references(kind: Kind) -> usize
+    ensures { λ r. ⌜ r ≡ before (shapeOf (kindMeans kind)) ⌝ }
+{
+    bits(COUNTED, kind)
+}
+
+fn behind_references(kind: Kind) -> usize
+    ensures { λ r. ⌜ r ≡ behind (shapeOf (kindMeans kind)) ⌝ }
+{
+    bits(NUMBERS, kind)
+}
+
+// How many words follow the kind word.
+fn body_length(kind: Kind, count: u32) -> usize
+    ensures { λ r. ⌜ r ≡ bodyLength (shapeOf (kindMeans kind)) count ⌝ }
+{
+    bits(LENGTHS, kind) + before_references(kind) * count as usize
+}
+
+fn body(words: &[u32], from: usize, kind: Kind) -> Head
+    requires { ⌜ from ≤ length (now words) ⌝ }
+    ensures { λ h. ⌜ headMeans h ≡ bodyAt (kindMeans kind) (now (words .entry)) from ⌝ }
+{
+    let left = words.len() - from;
+    if left < 1 {
+        return Head::Refused(Refusal::Truncated);
+    }
+    let count = words[from];
+    let length = body_length(kind, count);
+    if left < length {
+        return Head::Refused(Refusal::Truncated);
+    }
+    let next = from + length;
+    Head::Is(Heading {
+        kind,
+        count,
+        first: from + before_references(kind),
+        end: next - behind_references(kind),
+        next,
+    })
+}
+
+// The head of the definition that begins at a place. A place past the end is refused as a definition that runs past it.
+pub fn read_head(words: &[u32], at: usize) -> Head
+    ensures { λ h. ⌜ headMeans h ≡ headAt (now (words .entry)) at ⌝ }
+{
+    if words.len() <= at {
+        return Head::Refused(Refusal::Truncated);
+    }
+    match kind_of(words[at]) {
+        Kinded::Bad => Head::Refused(Refusal::BadKind),
+        Kinded::Kind(kind) => body(words, at + 1, kind),
+    }
+}
