@@ -8,6 +8,6 @@ fn main() {
     let count = io::read_full(STDIN_FILENO, &mut bytes);
     // Room for the longest text.
     let mut out = [0u8; 78878];
-    let end = text::report(&bytes[..count], &mut out);
+    let end = listing::report(&bytes[..count], &mut out);
     io::write_all(STDOUT_FILENO, &out[..end]);
 }

@@ -2,5 +2,6 @@
 pub mod References
 pub mod WellFormed
 pub mod Members
+pub mod Memos
 pub mod Unique
 pub mod Promises

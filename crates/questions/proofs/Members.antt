@@ -3,8 +3,8 @@ use mathlib.Core.Path.{_≡_, refl, sym, ap, _∙_}
 use mathlib.Core.Bool.{Bool, true, false, cond, _||_, or-true}
 use mathlib.Core.List.{List, [], _∷_, _++_, append-assoc}
 use mathlib.Core.Option.{Option, none, some}
-use Prim.Native.Nat.{ℕ, suc, _+_, _-_, _≤_, _<_, max}
-use native.Mathlib.Nat.{add-zero, zero-add}
+use Prim.Native.Nat.{ℕ, suc, _+_, _%_, _≤_, _<_, max, min}
+use native.Mathlib.Nat.{add-zero, zero-add, mod-eq-of-lt}
 use native.Mathlib.Numerals.{add-one}
 use native.Mathlib.Decide.{decLe}
 use native.Mathlib.Omega.{arith}
@@ -13,19 +13,20 @@ use lib.ListN.{length, getD, take, drop, set, length-append}
 use lib.Seq.{drop-cons, take-suc, take-suc-set, length-take-le, set-at}
 use borrow.Author.Tests.{lt-ltb, le-ltb}
 use Rattle.canon.specs.Answer.{Answer, ok, refused, then}
-use Rattle.canon.specs.Round.{roundUp, Alignment}
-use Rattle.canon.specs.Layout.{Memory, within, Layout, starts, lastEnd, greatestAlign, recordSize, recordLayout, largestNumber}
+use Rattle.canon.specs.Layout.{Memory, within, Layout, roundUp, starts, lastEnd, greatestAlign, recordSize, recordLayout, largestNumber}
 use Rattle.canon.specs.Row.{Info}
-use Rattle.canon.specs.Question.{firstOver, orSize, refusedAt, Placing, judged, placed, layoutsIn, written}
+use Rattle.canon.specs.Question.{firstOver, orSize, refusedAt, Placing, judged, placed, layoutsIn, bufferAfter}
 use Rattle.canon.proofs.Tests.{impossible}
-use Rattle.canon.proofs.Rounding.{le-roundUp, alignment-pos}
-use Rattle.canon.proofs.Tightest.{Aligned, le-recordSize}
-use Rattle.types.specs.Extents.{rounded, endsAt, tooFar, reach, startExtent, memberOf, closeOf}
+use Rattle.canon.proofs.Rounding.{Alignment, le-roundUp, alignment-pos}
+use Rattle.canon.proofs.Tightest.{Aligned, le-recordSize, greatestAlign-alignment}
+use Rattle.canon.specs.Placement.{fourGiB}
+use Rattle.types.specs.Extents.{extentAt, memberOf, closeOf, isLarge}
 use Rattle.types.specs.declared.extent.Extent.{Extent}
-use Rattle.types.proofs.ExtentLaws.{reach-over, reach-at, reach-large, membersOf, members-reach, record-reach}
+use Rattle.types.specs.declared.extent.Step.{Step}
+use Rattle.types.proofs.ExtentLaws.{reach-is, reach-large, member-reach, close-reach}
 use Rattle.table.specs.declared.info.MemberPosition.{MemberPosition}
 use Rattle.questions.specs.Steps.{startPlace, nextPlace, finished, layoutPart}
-use Rattle.questions.specs.declared.placing.Placed.{Placed}
+use Rattle.questions.specs.declared.placed.Placed.{Placed}
 
 -- a turn of the copy
 pub copy-turn : (s d : List ℕ) (i : ℕ) → i < length s → i < length d → set (take i s ++ drop i d) i (getD s i 0) ≡ take (i + 1) s ++ drop (i + 1) d
@@ -33,31 +34,17 @@ copy-turn s d i h k =
     rw (add-one i, drop-cons d i 0 k, take-suc s i 0 h, append-assoc (take i s) (getD s i 0 ∷ []) (drop (suc i) d))
     (set-at (take i s) (getD d i 0) (drop (suc i) d) (getD s i 0) i (length-take-le i s (omega arith)))
 
--- what is copied is written, and a refusal writes nothing
+-- an answer comes of a placement, and a refusal writes nothing
 
-pub copied :
-    (a : Answer Placing) (f : Layout) (stage out after : List ℕ) (n : ℕ) →
-    ok f ≡ layoutPart a → ((p : Placing) → a ≡ ok p → p .offsets ≡ take n stage) → n ≤ length stage →
-    after ≡ take n stage ++ drop n out → after ≡ written a out
-unfolding then written
-copied (ok p) f stage out after n e h l c = rw (h p refl, length-take-le n stage l) c
-copied (refused x p) f stage out after n e h l c = impossible (cc)
+pub answered : (a : Answer Placing) (f : Layout) → ok f ≡ layoutPart a → (p : Placing) × (a ≡ ok p)
+unfolding then
+answered (ok p) f e = (p, refl)
+answered (refused x q) f e = impossible (cc)
 
-pub untouched : (a : Answer Placing) (x p : ℕ) (out : List ℕ) → refused x p ≡ layoutPart a → out ≡ written a out
-unfolding then written
+pub untouched : (a : Answer Placing) (x p : ℕ) (out : List ℕ) → refused x p ≡ layoutPart a → out ≡ bufferAfter a out
+unfolding then bufferAfter
 untouched (ok q) x p out e = impossible (cc)
 untouched (refused y q) x p out e = refl
-
--- an end that fits lies behind the member's bytes
-pub end-reaches : (x : Extent) (f : Layout) → memberOf x f .large ≡ false → f .size ≤ memberOf x f .end
-unfolding memberOf reach
-end-reaches x f =
-    go (x .large) (ltb largestNumber (rounded (x .end) (f .align) + f .size)) (rounded (x .end) (f .align) + f .size) (max (x .align) (f .align)) (omega arith)
-  where
-    go : (b c : Bool) (e a : ℕ) → f .size ≤ e → cond b (tooFar a) (cond c (tooFar a) (endsAt e a)) .large ≡ false → f .size ≤ cond b (tooFar a) (cond c (tooFar a) (endsAt e a)) .end
-    go true c e a h l = impossible (cc)
-    go false true e a h l = impossible (cc)
-    go false false e a h l = h
 
 -- One member more at the end
 
@@ -69,10 +56,10 @@ pub layouts-more : (m : Memory) (is′ : List Info) (i : Info) → layoutsIn m (
 layouts-more m [] i = refl
 layouts-more m (j ∷ is′) i = ap (λ (l : List Layout). within m (j .abi .layouts) ∷ l) (layouts-more m is′ i)
 
-members-more : (x : Extent) (fs : List Layout) (f : Layout) → membersOf x (fs ++ f ∷ []) ≡ memberOf (membersOf x fs) f
-unfolding membersOf
-members-more x [] f = refl
-members-more x (g ∷ fs) f = members-more (memberOf x g) fs f
+align-more : (fs : List Layout) (f : Layout) → greatestAlign (fs ++ f ∷ []) ≡ max (greatestAlign fs) (f .align)
+unfolding greatestAlign
+align-more [] f = omega arith
+align-more (g ∷ fs) f = let h = align-more fs f in omega arith
 
 end-more : (e : ℕ) (fs : List Layout) (f : Layout) → lastEnd e (fs ++ f ∷ []) ≡ roundUp (lastEnd e fs) (f .align) + f .size
 unfolding lastEnd
@@ -104,177 +91,149 @@ over-more p e (g ∷ fs) f =
     go true l h = refl
     go false l h = h ∙ ap (λ (q : ℕ). orElse (firstOver (suc p) l fs) (firstOver q (lastEnd l fs) (f ∷ []))) (omega arith)
 
--- The state after these members: the first that passes is known where one does
-pub record Stands (p : Placed) (fs : List Layout) : Type 0 where
-  pub extent : p .extent ≡ membersOf startExtent fs
-  pub within : lastEnd 0 fs ≤ largestNumber → (p .over .0 ≡ 0) × (firstOver 0 0 fs ≡ none)
+-- The state after these members, k of them: the first that passes is known where one does
+pub record Stands (p : Placed) (fs : List Layout) (k : ℕ) : Type 0 where
+  pub count : length fs ≡ k
+  pub aligned : Aligned fs
+  pub extent : p .extent ≡ extentAt (lastEnd 0 fs) (greatestAlign fs)
+  pub within : lastEnd 0 fs ≤ largestNumber → firstOver 0 0 fs ≡ none
   pub beyond : largestNumber < lastEnd 0 fs → firstOver 0 0 fs ≡ some (p .over .0)
 
 -- offsets staged so far: they count only while all fits
 abbrev pub Staged : List ℕ → List Layout → Type 0
 Staged os fs = lastEnd 0 fs ≤ largestNumber → os ≡ starts 0 fs
 
-pub nothing-stands : (p : Placed) → p ≡ startPlace → Stands p []
-unfolding membersOf lastEnd firstOver
-nothing-stands p e = rw e (record { extent = refl; within = λ h. (refl, refl); beyond = λ h. absurd (omega arith) })
+pub nothing-stands : Stands startPlace [] 0
+unfolding lastEnd firstOver greatestAlign
+nothing-stands =
+    record { count = refl; aligned = tt; extent = sym (reach-is 0 1 (omega arith)); within = λ h. refl; beyond = λ h. absurd (omega arith) }
 
--- the step's three cases, by the extent after it
-module _ (p : Placed) (f : Layout) (k : MemberPosition) (x : Extent) (e : x ≡ memberOf (p .extent) f) where
-  pub next-late : p .extent .large ≡ true → record { extent = x; offset = 0; over = p .over } ≡ nextPlace p f k
-  unfolding nextPlace
-  next-late h = rw (← e, h)
+module _ (p : Placed) (fs : List Layout) (k : ℕ) (s : Stands p fs k) where
+  large : isLarge (p .extent) ≡ ltb largestNumber (lastEnd 0 fs)
+  large = ap isLarge (s .extent) ∙ reach-large (lastEnd 0 fs) (greatestAlign fs)
 
-  pub next-over : p .extent .large ≡ false → x .large ≡ true → record { extent = x; offset = 0; over = k } ≡ nextPlace p f k
-  unfolding nextPlace
-  next-over h g = rw (← e, h, g)
-
-  pub next-fits : p .extent .large ≡ false → x .large ≡ false → record { extent = x; offset = x .end - f .size; over = p .over } ≡ nextPlace p f k
-  unfolding nextPlace
-  next-fits h g = rw (← e, h, g)
-
-module _ (p : Placed) (fs : List Layout) (w : Aligned fs) (s : Stands p fs) where
-  reaches : p .extent ≡ reach (lastEnd 0 fs) (greatestAlign fs)
-  reaches = s .extent ∙ members-reach fs w
-
-  module _ (f : Layout) (a : Alignment (f .align)) (k : MemberPosition) (e : k .0 ≡ length fs) where
+  module _ (f : Layout) (a : Alignment (f .align)) (q : Placed) (e : q ≡ nextPlace p f (record { 0 = k })) where
     abbrev more : List Layout
     more = fs ++ f ∷ []
 
     abbrev end : ℕ
     end = lastEnd 0 more
 
-    moves : memberOf (p .extent) f ≡ reach end (greatestAlign more)
-    moves = ap (λ (x : Extent). memberOf x f) (s .extent) ∙ sym (members-more startExtent fs f) ∙ members-reach more (aligned-more fs f w a)
+    moves : memberOf (p .extent) f
+        ≡ record { start = min (roundUp (lastEnd 0 fs) (f .align)) fourGiB; extent = extentAt (roundUp (lastEnd 0 fs) (f .align) + f .size) (max (greatestAlign fs) (f .align)) }
+    moves = ap (λ (x : Extent). memberOf x f) (s .extent) ∙ member-reach (lastEnd 0 fs) (greatestAlign fs) f a
 
-    kept : memberOf (p .extent) f ≡ membersOf startExtent more
-    kept = ap (λ (x : Extent). memberOf x f) (s .extent) ∙ sym (members-more startExtent fs f)
+    extent-is : q .extent ≡ extentAt end (greatestAlign more)
+    unfolding nextPlace
+    extent-is =
+        ap (λ (x : Placed). x .extent) e ∙ ap (λ (x : Step). x .extent) moves
+        ∙ rw (end-more 0 fs f, align-more fs f)
 
-    was : p .extent .large ≡ ltb largestNumber (lastEnd 0 fs)
-    was = ap (λ (x : Extent). x .large) reaches ∙ reach-large (lastEnd 0 fs) (greatestAlign fs)
-
-    is-large : memberOf (p .extent) f .large ≡ ltb largestNumber end
-    is-large = ap (λ (x : Extent). x .large) moves ∙ reach-large end (greatestAlign more)
+    over-is : q .over ≡ cond (ltb largestNumber (lastEnd 0 fs)) (p .over) (record { 0 = k })
+    unfolding nextPlace
+    over-is = ap (λ (x : Placed). x .over) e ∙ ap (λ (b : Bool). cond b (p .over) (record { 0 = k })) large
 
     grown : lastEnd 0 fs ≤ roundUp (lastEnd 0 fs) (f .align)
     grown = le-roundUp (lastEnd 0 fs) (f .align) (alignment-pos a)
 
-    -- the last of them alone
-    last-over : firstOver 0 0 fs ≡ none → largestNumber < end → firstOver 0 0 more ≡ some (k .0)
-    unfolding firstOver
-    last-over n h =
-        over-more 0 0 fs f
-        ∙ rw (n, lt-ltb largestNumber (roundUp (lastEnd 0 fs) (f .align) + f .size) (rw end-more at h), or-true (ltb largestNumber (roundUp (lastEnd 0 fs) (f .align))), e, zero-add (length fs))
+    earlier : end ≤ largestNumber → lastEnd 0 fs ≤ largestNumber
+    earlier h = let g = rw end-more at h in omega (arith, grown)
 
-    none-over : firstOver 0 0 fs ≡ none → end ≤ largestNumber → firstOver 0 0 more ≡ none
+    none-over : end ≤ largestNumber → firstOver 0 0 more ≡ none
     unfolding firstOver
-    none-over n h =
+    none-over h =
         let g : roundUp (lastEnd 0 fs) (f .align) + f .size ≤ largestNumber = rw end-more at h in
         over-more 0 0 fs f
-        ∙ rw (n, le-ltb largestNumber (roundUp (lastEnd 0 fs) (f .align)) (omega arith), le-ltb largestNumber (roundUp (lastEnd 0 fs) (f .align) + f .size) g)
+        ∙ rw (s .within (earlier h), le-ltb largestNumber (roundUp (lastEnd 0 fs) (f .align)) (omega arith), le-ltb largestNumber (roundUp (lastEnd 0 fs) (f .align) + f .size) g)
 
-    late : largestNumber < lastEnd 0 fs → Stands (nextPlace p f k) more
-    late h =
-        let g : largestNumber < end = rw end-more (omega (arith, grown)) in
-        rw (← next-late p f k _ refl (was ∙ lt-ltb largestNumber (lastEnd 0 fs) h))
-        (record {
-          extent = kept;
-          within = λ l. absurd (omega arith);
-          beyond = λ l. over-more 0 0 fs f ∙ rw (s .beyond h);
-        })
-
-    over : lastEnd 0 fs ≤ largestNumber → largestNumber < end → Stands (nextPlace p f k) more
-    over h g =
-        rw (← next-over p f k _ refl (was ∙ le-ltb largestNumber (lastEnd 0 fs) h) (is-large ∙ lt-ltb largestNumber end g))
-        (record { extent = kept; within = λ l. absurd (omega arith); beyond = λ l. last-over (s .within h .1) g })
-
-    fits : lastEnd 0 fs ≤ largestNumber → end ≤ largestNumber → Stands (nextPlace p f k) more
-    fits h g =
-        rw (← next-fits p f k _ refl (was ∙ le-ltb largestNumber (lastEnd 0 fs) h) (is-large ∙ le-ltb largestNumber end g))
-        (record { extent = kept; within = λ l. (s .within h .0, none-over (s .within h .1) g); beyond = λ l. absurd (omega arith) })
-
-    pub stands-more : Stands (nextPlace p f k) more
-    stands-more =
+    -- the last of them alone, or one before it
+    some-over : largestNumber < end → firstOver 0 0 more ≡ some (q .over .0)
+    unfolding firstOver
+    some-over h =
         elim (decLe (lastEnd 0 fs) largestNumber) [
-          | no h ↦ late (omega arith)
-          | yes h ↦ elim (decLe end largestNumber) [ yes g ↦ fits h g | no g ↦ over h (omega arith) ]
+          | yes l ↦
+              over-more 0 0 fs f
+              ∙ rw (
+                s .within l,
+                lt-ltb largestNumber (roundUp (lastEnd 0 fs) (f .align) + f .size) (rw end-more at h),
+                or-true (ltb largestNumber (roundUp (lastEnd 0 fs) (f .align))),
+                s .count,
+                zero-add k,
+                over-is,
+                le-ltb largestNumber (lastEnd 0 fs) l,
+              )
+          | no l ↦ over-more 0 0 fs f ∙ rw (s .beyond (omega arith), over-is, lt-ltb largestNumber (lastEnd 0 fs) (omega arith))
         ]
 
-    -- its start is its end less its size
-    starts-at : lastEnd 0 fs ≤ largestNumber → end ≤ largestNumber → nextPlace p f k .offset ≡ roundUp (lastEnd 0 fs) (f .align)
-    starts-at h g =
-        rw (
-          ← next-fits p f k _ refl (was ∙ le-ltb largestNumber (lastEnd 0 fs) h) (is-large ∙ le-ltb largestNumber end g),
-          moves,
-          reach-at end (greatestAlign more) g,
-          end-more,
-        )
-        (omega arith)
+    pub stands-more : Stands q more (k + 1)
+    stands-more =
+        record {
+          count = rw (length-append fs (f ∷ []), s .count);
+          aligned = aligned-more fs f (s .aligned) a;
+          extent = extent-is;
+          within = none-over;
+          beyond = some-over;
+        }
 
-    pub staged-more : (stage : List ℕ) (j : ℕ) → Staged (take j stage) fs → j < length stage → Staged (take (j + 1) (set stage j (nextPlace p f k .offset))) more
-    staged-more stage j t l g =
-        let h : lastEnd 0 fs ≤ largestNumber = let x = rw end-more at g in omega (arith, grown) in
-        rw (add-one j, take-suc-set stage j (nextPlace p f k .offset) l, starts-more, t h, starts-at h g)
+    -- its offset is its start
+    starts-at : end ≤ largestNumber → q .offset ≡ roundUp (lastEnd 0 fs) (f .align)
+    unfolding nextPlace
+    starts-at h =
+        let g : roundUp (lastEnd 0 fs) (f .align) + f .size ≤ largestNumber = rw end-more at h in
+        let n : min (roundUp (lastEnd 0 fs) (f .align)) fourGiB ≡ roundUp (lastEnd 0 fs) (f .align) = omega arith in
+        ap (λ (x : Placed). x .offset) e ∙ ap (λ (x : Step). x .start % fourGiB) moves
+        ∙ rw n (mod-eq-of-lt (omega arith))
+
+    pub staged-last : (os : List ℕ) → Staged os fs → Staged (os ++ q .offset ∷ []) more
+    staged-last os t g = rw (starts-more, t (earlier g), starts-at g)
+
+    pub staged-more : (stage : List ℕ) → Staged (take k stage) fs → k < length stage → Staged (take (k + 1) (set stage k (q .offset))) more
+    staged-more stage t l = rw (add-one k, take-suc-set stage k (q .offset) l) (staged-last (take k stage) t)
 
   -- Closed, it is canon's answer
 
-  closes : closeOf (p .extent) ≡ reach (recordSize fs) (greatestAlign fs)
-  closes = ap closeOf (s .extent) ∙ record-reach fs w
+  closes : closeOf (p .extent) ≡ extentAt (recordSize fs) (greatestAlign fs)
+  unfolding recordSize
+  closes = ap closeOf (s .extent) ∙ close-reach (lastEnd 0 fs) (greatestAlign fs) (greatestAlign-alignment fs (s .aligned))
 
   size-fits : recordSize fs ≤ largestNumber → refusedAt fs ≡ none
   unfolding refusedAt orSize
-  size-fits h = rw (s .within (omega (arith, le-recordSize fs w)) .1, le-ltb largestNumber (recordSize fs) h)
-
-  size-over : largestNumber < recordSize fs → refusedAt fs ≡ some (p .over .0)
-  unfolding refusedAt orSize
-  size-over h =
-      elim (decLe (lastEnd 0 fs) largestNumber) [
-        | yes l ↦ rw (s .within l .1, lt-ltb largestNumber (recordSize fs) h, s .within l .0)
-        | no l ↦ rw (s .beyond (omega arith))
-      ]
+  size-fits h = rw (s .within (omega (arith, le-recordSize fs (s .aligned))), le-ltb largestNumber (recordSize fs) h)
 
   pub finish-is : finished p ≡ layoutPart (placed fs)
-  unfolding finished placed judged then
+  unfolding finished placed judged refusedAt orSize then
   finish-is =
-      elim (decLe (recordSize fs) largestNumber) [
-        | yes h ↦ rw (size-fits h, closes, reach-at (recordSize fs) (greatestAlign fs) h)
-        | no h ↦ rw (size-over (omega arith), closes, reach-over (recordSize fs) (greatestAlign fs) (omega arith))
+      elim (decLe (lastEnd 0 fs) largestNumber) [
+        | no l ↦ rw (large, lt-ltb largestNumber (lastEnd 0 fs) (omega arith), s .beyond (omega arith))
+        | yes l ↦ elim (decLe (recordSize fs) largestNumber) [
+          | yes h ↦ rw (large, le-ltb largestNumber (lastEnd 0 fs) l, s .within l, closes, le-ltb largestNumber (recordSize fs) h, reach-is (recordSize fs) (greatestAlign fs) (omega arith), le-ltb largestNumber (recordSize fs) h)
+          | no h ↦ rw (large, le-ltb largestNumber (lastEnd 0 fs) l, s .within l, closes, reach-large (recordSize fs) (greatestAlign fs), lt-ltb largestNumber (recordSize fs) (omega arith))
+        ]
       ]
 
-  pub offsets-are : (os : List ℕ) → Staged os fs → (q : Placing) → placed fs ≡ ok q → q .offsets ≡ os
-  unfolding placed judged
-  offsets-are os t q e =
-      elim (decLe (recordSize fs) largestNumber) [
-        | yes h ↦
-            let r = size-fits h in
-            let x : record { layout = recordLayout fs; offsets = starts 0 fs } ≡ q = cc in
-            sym (ap (λ (y : Placing). y .offsets) x) ∙ sym (t (omega (arith, le-recordSize fs w)))
-        | no h ↦ let r = size-over (omega arith) in impossible (cc)
+  -- an accepted placement is of canon's starts, and all of them fit
+  pub placed-is : (q : Placing) → placed fs ≡ ok q → (q .offsets ≡ starts 0 fs) × (lastEnd 0 fs ≤ largestNumber)
+  unfolding placed judged refusedAt orSize
+  placed-is q e =
+      elim (decLe (lastEnd 0 fs) largestNumber) [
+        | no l ↦ let b = s .beyond (omega arith) in impossible (cc)
+        | yes l ↦ elim (decLe (recordSize fs) largestNumber) [
+          | yes h ↦
+              let r = size-fits h in
+              let x : record { layout = recordLayout fs; offsets = starts 0 fs } ≡ q = cc in
+              (sym (ap (λ (y : Placing). y .offsets) x), l)
+          | no h ↦ let w = s .within l in let b = lt-ltb largestNumber (recordSize fs) (omega arith) in impossible (cc)
+        ]
       ]
 
--- A turn of the loop: these infos were read before place k
+-- what was put in front of the buffer is what an accepted placement leaves there
+pub written :
+    (a : Answer Placing) (p : Placing) (os out after : List ℕ) (n : ℕ) →
+    a ≡ ok p → p .offsets ≡ os → length os ≡ n → after ≡ os ++ drop n out → after ≡ bufferAfter a out
+unfolding bufferAfter
+written a p os out after n e f l w = rw (e, f, l) w
 
-pub record Filled (m : Memory) (done : List Info) (stage : List ℕ) (p : Placed) (k : ℕ) : Type 0 where
-  pub count : length (layoutsIn m done) ≡ k
-  pub aligned : Aligned (layoutsIn m done)
-  pub stands : Stands p (layoutsIn m done)
-  pub staged : Staged (take k stage) (layoutsIn m done)
-
-pub filled-none : (m : Memory) (stage : List ℕ) (p : Placed) → p ≡ startPlace → Filled m [] stage p 0
+pub length-starts : (e : ℕ) (fs : List Layout) → length (starts e fs) ≡ length fs
 unfolding starts
-filled-none m stage p e = record { count = refl; aligned = tt; stands = nothing-stands p e; staged = λ h. refl }
-
-pub filled-more :
-    {m : Memory} {done : List Info} {stage : List ℕ} {p : Placed} {k : ℕ} (i : Info) (q : Placed) →
-    Filled m done stage p k → Alignment (within m (i .abi .layouts) .align) →
-    q ≡ nextPlace p (within m (i .abi .layouts)) (record { 0 = k }) → k < length stage →
-    Filled m (done ++ i ∷ []) (set stage k (q .offset)) q (k + 1)
-filled-more {m} {done} {stage} {p} {k} i q s a e l =
-    let fs = layoutsIn m done in
-    let f = within m (i .abi .layouts) in
-    rw e
-    (record {
-      count = rw (layouts-more m done i, length-append fs (f ∷ []), s .count);
-      aligned = rw (layouts-more m done i) (aligned-more fs f (s .aligned) a);
-      stands = rw (layouts-more m done i) (stands-more p fs (s .aligned) (s .stands) f a (record { 0 = k }) (sym (s .count)));
-      staged = rw (layouts-more m done i) (staged-more p fs (s .aligned) (s .stands) f a (record { 0 = k }) (sym (s .count)) stage k (s .staged) l);
-    })
+length-starts e [] = refl
+length-starts e (f ∷ fs) = ap suc (length-starts (roundUp e (f .align) + f .size) fs)

@@ -13,32 +13,22 @@ use Rattle.canon.specs.Answer.{Answer, ok, refused, then, unless, tooLarge}
 use Rattle.canon.specs.Types.{Ty}
 use Rattle.canon.specs.Layout as canon
 use Rattle.canon.specs.Layout.{mem32, mem64, layout}
-use Rattle.canon.specs.Placement.{NoPlacement}
+use Rattle.canon.specs.Reach.{reachWord}
 use Rattle.canon.specs.Row.{Info, infoOf}
 use Rattle.canon.specs.Description.{reference, built, tableAfter}
-use Rattle.canon.specs.Question.{ask, typeAnswer, sizeAlignAnswer, layoutsIn, Placing, placed, placing, placementAnswer, written, offsetsAfter}
+use Rattle.canon.specs.Question.{ask, typeAnswer, sizeAlignAnswer, layoutsIn, Placing, placed, placing, placementAnswer, bufferAfter, offsetsAfter}
+use Rattle.canon.specs.Placement.{NoPlacement}
 use Rattle.canon.proofs.Tests.{impossible}
 use Rattle.canon.proofs.Refusals.{Tightest}
-use Rattle.canon.proofs.Asked.{
-  Reads,
-  placing-six,
-  placing-tightest,
-  Names,
-  type-built,
-  ask-built,
-  layouts-typed,
-  flatTypes,
-  flats-typed,
-  borrowTypes,
-  borrows-typed,
-}
-use Rattle.types.specs.Means.{layoutMeans}
+use Rattle.canon.proofs.Questions.{Reads, placing-six, placing-tightest, Names, type-built, ask-built, layouts-typed, flatTypes, flats-typed}
+use Rattle.canon.proofs.Questions.{reachTypes, reaches-typed}
+use Rattle.types.specs.Means.{memoryOf, layoutMeans}
 use Rattle.types.specs.declared.refusal.Refusal.the-variants.{TooLarge}
 use Rattle.types.specs.declared.extent.Layout.{Layout}
-use Rattle.flat_types.specs.Lists.{memoryOf, packed}
-use Rattle.flat_types.specs.declared.memory.Memory.{Memory}
+use Rattle.types.specs.declared.memory.Memory.{Memory}
+use Rattle.flat_types.specs.Lists.{packed}
 use Rattle.table.specs.declared.info.MemberPosition.{MemberPosition}
-use Rattle.questions.specs.Means.{typeMeans, answerMeans, gatheredMeans}
+use Rattle.questions.specs.Means.{typeMeans, layoutAnswerMeans, gatheredMeans}
 use Rattle.questions.specs.Gathers.{together, gatherAnswer}
 use Rattle.questions.specs.Steps.{layoutPart}
 use Rattle.questions.specs.declared.answer.TypeAnswer.{TypeAnswer}
@@ -55,9 +45,9 @@ use Rattle.questions.proofs.placing.placement.Reads as placement
 -- Demand 3, of a placement question that passes every earlier check and reads these infos
 
 answered :
-    (a : Answer Placing) (f : canon.Layout) (out after : List ℕ) → ok f ≡ layoutPart a → after ≡ written a out →
+    (a : Answer Placing) (f : canon.Layout) (out after : List ℕ) → ok f ≡ layoutPart a → after ≡ bufferAfter a out →
     (os : List ℕ) × (a ≡ ok (record { layout = f; offsets = os })) × (after ≡ os ++ drop (length os) out)
-unfolding then written
+unfolding then bufferAfter
 answered (ok p) f out after e w = let g : f ≡ p .layout = cc in (p .offsets, rw g, w)
 answered (refused x p) f out after e w = impossible (cc)
 
@@ -84,9 +74,9 @@ module _
     unfolding placementAnswer then
     placement-six r h =
         let six = placing-six (memoryOf m) reads in (
-          λ g. six .0 (g .0 .0, refusal-passes (placing (memoryOf m) (now t) n (now ws) (length (now o))) tooLarge (g .0 .0) (sym (ap answerMeans (g .1)) ∙ h .0)),
+          λ g. six .0 (g .0 .0, refusal-passes (placing (memoryOf m) (now t) n (now ws) (length (now o))) tooLarge (g .0 .0) (sym (ap layoutAnswerMeans (g .1)) ∙ h .0)),
           λ none. let g = six .1 none in
-              (record { 0 = g .0 }, told answerMeans layoutOf layout-back r (answer.Refused TooLarge (record { 0 = g .0 })) (h .0 ∙ rw (g .1))),
+              (record { 0 = g .0 }, told layoutAnswerMeans layoutOf layout-back r (answer.Refused TooLarge (record { 0 = g .0 })) (h .0 ∙ rw (g .1))),
         )
 
 -- Tables that a build wrote, of a description ws into a buffer t₀
@@ -97,7 +87,7 @@ module _ (κs : Lfts 1) (t : RefT (List ℕ)) (n w : ℕ) (ws t₀ : List ℕ) (
     pub type-of : (r : TypeAnswer) → canonical-abi.Post κs (t, (n, (w, tt))) r (t, (n, (w, tt))) → typeMeans r ≡ ok (infoOf u)
     type-of r h = h ∙ ap (λ (x : List ℕ). typeAnswer x n w) table ∙ type-built ws t₀ n w u rows named
 
-    pub size-of : (m : Memory) (r : LayoutAnswer) → size-align.Post κs (m, (t, (n, (w, tt)))) r (m, (t, (n, (w, tt)))) → answerMeans r ≡ ok (layout (memoryOf m) u)
+    pub size-of : (m : Memory) (r : LayoutAnswer) → size-align.Post κs (m, (t, (n, (w, tt)))) r (m, (t, (n, (w, tt)))) → layoutAnswerMeans r ≡ ok (layout (memoryOf m) u)
     unfolding sizeAlignAnswer then
     size-of m r h = h ∙ ap (λ (x : List ℕ). sizeAlignAnswer (memoryOf m) x n w) table ∙ rw (type-built ws t₀ n w u rows named) (go (memoryOf m))
       where
@@ -109,14 +99,14 @@ module _ (m : Memory) (t : RefT (List ℕ)) (n : ℕ) (refs : RefT (List ℕ)) (
     (table : now t ≡ tableAfter ws t₀) (names : Names ws t₀ n (now refs) us)
   where
     pub gathered-of :
-        (κs : Lfts 2) (r : Gathered) → gather.Post κs (m, (t, (n, (refs, (0, tt))))) r (m, (t, (n, (refs, (0, tt))))) →
-        gatheredMeans r ≡ ok (record { flat = packed (flatTypes (memoryOf m) us); borrow = borrowTypes us })
+        (κs : Lfts 2) (r : Gathered) → gather.Post κs (m, (t, (n, (refs, tt)))) r (m, (t, (n, (refs, tt)))) →
+        gatheredMeans r ≡ ok (record { flat = packed (flatTypes (memoryOf m) us); reach = reachWord (reachTypes us) })
     unfolding gatherAnswer ask unless
     gathered-of κs r h =
         h
-        ∙ ap (λ (x : List ℕ). gatherAnswer (memoryOf m) x n 0 (now refs)) table
+        ∙ ap (λ (x : List ℕ). gatherAnswer (memoryOf m) x n (now refs)) table
         ∙ ask-built (λ is′. ok (together (memoryOf m) is′)) names
-        ∙ rw (flats-typed (memoryOf m) us, borrows-typed us)
+        ∙ rw (flats-typed (memoryOf m) us, reaches-typed us)
 
     placing-of : (room : ℕ) → length (now refs) ≤ room → placing (memoryOf m) (now t) n (now refs) room ≡ placed (map (layout (memoryOf m)) us)
     unfolding placing
@@ -127,7 +117,7 @@ module _ (m : Memory) (t : RefT (List ℕ)) (n : ℕ) (refs : RefT (List ℕ)) (
     pub placed-of :
         (κs : Lfts 3) (o : RefT (List ℕ)) (r : LayoutAnswer) (l : List ℕ) → length (now refs) ≤ length (now o) →
         placement.Post κs (m, (t, (n, (refs, (o, tt))))) r (m, (t, (n, (refs, (at-last o l, tt))))) →
-        (answerMeans r ≡ layoutPart (placed (map (layout (memoryOf m)) us))) × (l ≡ written (placed (map (layout (memoryOf m)) us)) (now o))
+        (layoutAnswerMeans r ≡ layoutPart (placed (map (layout (memoryOf m)) us))) × (l ≡ bufferAfter (placed (map (layout (memoryOf m)) us)) (now o))
     unfolding placementAnswer offsetsAfter
     placed-of κs o r l fits h =
         (h .0 ∙ rw (placing-of (length (now o)) fits), h .1 ∙ rw (placing-of (length (now o)) fits))

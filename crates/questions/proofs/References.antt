@@ -1,21 +1,60 @@
--- A loop over references: these infos have been read, and the rest comes behind them. A law for each turn, whatever is made of the infos.
+-- One reference: its row lies within the table, and what a question takes of it is a part of what canon's `read` gives. A loop over
+-- references: these infos have been read, and the rest comes behind them. A law for each turn, whatever is made of the infos.
 use mathlib.Core.Path.{_≡_, refl, sym, ap, _∙_}
+use mathlib.Core.Bool.{Bool, false}
 use mathlib.Core.List.{List, [], _∷_, _++_, append-assoc, append-nil}
-use Prim.Native.Nat.{ℕ, _+_, _≤_, _<_}
-use native.Mathlib.Nat.{add-zero, add-suc}
+use Prim.Native.Nat.{ℕ, suc, _+_, _*_, _≤_, _<_}
 use native.Mathlib.Numerals.{add-one}
-use lib.ListN.{length, getD, drop, drop-of-length-le}
+use native.Mathlib.Omega.{arith}
+use lib.Dec.{ltb}
+use lib.ListN.{length, getD, getElem?, drop, drop-of-length-le}
 use lib.Seq.{drop-cons}
-use Rattle.canon.specs.Answer.{Leaf, is, no, Answer, ok, refused, atPosition, then}
+use borrow.Author.Tests.{ltb-false, lt-ltb, lt-leb}
+use Rattle.canon.specs.Answer.{Leaf, is, no, Answer, ok, refused, atPosition, then, andThen}
 use Rattle.canon.specs.Row.{Info}
-use Rattle.canon.specs.Question.{infos}
+use Rattle.canon.specs.Table.{capacity, rowAt}
+use Rattle.canon.specs.Types.{plain}
+use Rattle.canon.specs.Question.{plainInfo, read, infos, noTable}
+use Rattle.canon.proofs.Tests.{impossible, neither}
+use Rattle.table.specs.Rows.{rowIn}
+use Rattle.questions.specs.Steps.{part}
 
-pub then-then : {A B C : Type 0} (a : Answer A) (k : A → Answer B) (l : B → Answer C) → then (then a k) l ≡ then a (λ x. then (k x) l)
+-- One reference
+
+-- a table that is there has room for its rows
+pub row-is : (t : List ℕ) (n j : ℕ) → noTable t n ≡ false → j < n → rowIn t j ≡ rowAt t j
+unfolding noTable rowIn capacity
+row-is t n j e h =
+    let b = neither (ltb 1024 n) (ltb (length t) (16 * n)) e in
+    let l = ltb-false 1024 n (b .0) in
+    let m = ltb-false (length t) (16 * n) (b .1) in
+    rw (lt-ltb j (capacity (length t)) (omega arith))
+
+-- a word below 64 names no row
+pub read-plain : (t : List ℕ) (n w : ℕ) → w < 64 → read t n w ≡ plainInfo (getElem? plain w)
+unfolding read
+read-plain t n w h = rw (lt-leb 64 w h)
+
+-- what is taken of a reference tells what was read, and so does a refusal
+
+pub part-is : {A : Type 0} (f : Info → A) (l : Leaf Info) (a : A) → is a ≡ part f l → (i : Info) × (l ≡ is i) × (f i ≡ a)
+unfolding andThen
+part-is f (is i) a e = (i, refl, cc)
+part-is f (no x) a e = impossible (cc)
+
+pub part-no : {A : Type 0} (f : Info → A) (l : Leaf Info) (x : ℕ) → no x ≡ part f l → l ≡ no x
+unfolding andThen
+part-no f (is i) x e = impossible (cc)
+part-no f (no y) x e = let p : x ≡ y = cc in rw p
+
+-- A list of them
+
+then-then : {A B C : Type 0} (a : Answer A) (k : A → Answer B) (l : B → Answer C) → then (then a k) l ≡ then a (λ x. then (k x) l)
 unfolding then
 then-then (ok a) k l = refl
 then-then (refused x p) k l = refl
 
-pub then-ext : {A B : Type 0} (a : Answer A) (k l : A → Answer B) → ((x : A) → k x ≡ l x) → then a k ≡ then a l
+then-ext : {A B : Type 0} (a : Answer A) (k l : A → Answer B) → ((x : A) → k x ≡ l x) → then a k ≡ then a l
 unfolding then
 then-ext (ok a) k l e = e a
 then-ext (refused x p) k l e = refl
@@ -25,34 +64,55 @@ unfolding then
 then-same (ok a) = refl
 then-same (refused x p) = refl
 
--- of the references ws, the first at the position p
-module _ (look : ℕ → Leaf Info) (p : ℕ) (ws : List ℕ) where
+module _ (look : ℕ → Leaf Info) (ws : List ℕ) where
   -- before place k these were read
   abbrev pub Read : ℕ → List Info → Type 0
-  Read k done = infos look p ws ≡ then (infos look (p + k) (drop k ws)) (λ js. ok (done ++ js))
+  Read k done = infos look 0 ws ≡ then (infos look k (drop k ws)) (λ js. ok (done ++ js))
 
   pub begins : Read 0 []
-  begins = rw (add-zero p) (sym (then-same (infos look p ws)))
+  begins = sym (then-same (infos look 0 ws))
 
   turn :
       (k : ℕ) → k < length ws →
-      infos look (p + k) (drop k ws)
-      ≡ then (atPosition (p + k) (look (getD ws k 0))) (λ i. then (infos look (p + (k + 1)) (drop (k + 1) ws)) (λ js. ok (i ∷ js)))
+      infos look k (drop k ws)
+      ≡ then (atPosition k (look (getD ws k 0))) (λ i. then (infos look (k + 1) (drop (k + 1) ws)) (λ js. ok (i ∷ js)))
   unfolding infos
-  turn k h = rw (add-one k, add-suc p k, drop-cons ws k 0 h)
+  turn k h = rw (add-one k, drop-cons ws k 0 h)
 
   pub goes-on : (k : ℕ) (done : List Info) (i : Info) → Read k done → look (getD ws k 0) ≡ is i → k < length ws → Read (k + 1) (done ++ i ∷ [])
   unfolding then atPosition
   goes-on k done i r e h =
       r
       ∙ rw (turn k h, e)
-      (then-then (infos look (p + (k + 1)) (drop (k + 1) ws)) (λ js. ok (i ∷ js)) (λ js. ok (done ++ js))
-      ∙ then-ext (infos look (p + (k + 1)) (drop (k + 1) ws)) _ _ (λ js. ap ok (sym (append-assoc done (i ∷ []) js))))
+      (then-then (infos look (k + 1) (drop (k + 1) ws)) (λ js. ok (i ∷ js)) (λ js. ok (done ++ js))
+      ∙ then-ext (infos look (k + 1) (drop (k + 1) ws)) _ _ (λ js. ap ok (sym (append-assoc done (i ∷ []) js))))
 
-  pub stops : (k : ℕ) (done : List Info) (x : ℕ) → Read k done → look (getD ws k 0) ≡ no x → k < length ws → infos look p ws ≡ refused x (p + k)
+  pub stops : (k : ℕ) (done : List Info) (x : ℕ) → Read k done → look (getD ws k 0) ≡ no x → k < length ws → infos look 0 ws ≡ refused x k
   unfolding then atPosition
   stops k done x r e h = r ∙ rw (turn k h, e)
 
-  pub ends : (k : ℕ) (done : List Info) → Read k done → length ws ≤ k → infos look p ws ≡ ok done
+  pub ends : (k : ℕ) (done : List Info) → Read k done → length ws ≤ k → infos look 0 ws ≡ ok done
   unfolding infos then
   ends k done r h = r ∙ rw (drop-of-length-le ws {i = k} h, append-nil done)
+
+-- positions that count on from a list before
+
+abbrev pub moved : {A : Type 0} → ℕ → Answer A → Answer A
+moved p (ok a) = ok a
+moved p (refused x q) = refused x (p + q)
+
+pub infos-moved : (look : ℕ → Leaf Info) (p q : ℕ) (ws : List ℕ) → infos look (p + q) ws ≡ moved p (infos look q ws)
+unfolding infos then atPosition
+infos-moved look p q [] = refl
+infos-moved look p q (w ∷ ws) = go (look w) (ap (λ (k : ℕ). infos look k ws) (omega arith) ∙ infos-moved look p (suc q) ws)
+  where
+    tail : (i : Info) (a : Answer (List Info)) → then (moved p a) (λ js. ok (i ∷ js)) ≡ moved p (then a (λ js. ok (i ∷ js)))
+    tail i (ok js) = refl
+    tail i (refused x r) = refl
+
+    go :
+        (l : Leaf Info) → infos look (suc (p + q)) ws ≡ moved p (infos look (suc q) ws) →
+        then (atPosition (p + q) l) (λ i. then (infos look (suc (p + q)) ws) (λ js. ok (i ∷ js)))
+        ≡ moved p (then (atPosition q l) (λ i. then (infos look (suc q) ws) (λ js. ok (i ∷ js))))
+    go (is i) h = rw h (tail i (infos look (suc q) ws))
+    go (no x) h = refl

@@ -13,9 +13,9 @@ use Rattle.types.specs.Means.{countMeans}
 use Rattle.types.specs.declared.refusal.Refusal.{Refusal}
 use Rattle.types.specs.declared.flat.FlatCount.{FlatCount}
 use Rattle.types.specs.declared.flat.FlatCount.the-variants as flat
-use Rattle.flat_types.specs.declared.memory.Memory.{Memory}
+use Rattle.types.specs.declared.memory.Memory.{Memory}
 use Rattle.types.proofs.Told.{told, refusalOf, refusal-back}
-use Rattle.questions.specs.Means.{typeInfoMeans, typeMeans, answerMeans, gatheredMeans}
+use Rattle.questions.specs.Means.{typeInfoMeans, typeMeans, layoutAnswerMeans, gatheredMeans}
 use Rattle.questions.specs.Gathers.{Together}
 use Rattle.questions.specs.declared.answer.TypeInfo.{TypeInfo}
 use Rattle.questions.specs.declared.answer.TypeAnswer.{TypeAnswer}
@@ -53,7 +53,7 @@ infoFrom i =
           };
       flat32 = i .flatWords .in32;
       flat64 = i .flatWords .in64;
-      borrow = i .borrow;
+      borrow = i .reach .borrow;
     }
 
 info-back : (i : TypeInfo) → infoFrom (typeInfoMeans i) ≡ i
@@ -73,13 +73,13 @@ pub layoutOf : Answer canon.Layout → LayoutAnswer
 layoutOf (ok f) = layout.Layout (record { size = f .size; align = f .align })
 layoutOf (refused x p) = layout.Refused (refusalOf x) (record { 0 = p })
 
-pub layout-back : (r : LayoutAnswer) → layoutOf (answerMeans r) ≡ r
+pub layout-back : (r : LayoutAnswer) → layoutOf (layoutAnswerMeans r) ≡ r
 unfolding layoutOf
 layout-back (layout.Layout f) = refl
 layout-back (layout.Refused x p) = ap (λ (y : Refusal). layout.Refused y p) (refusal-back x)
 
 gatheredOf : Answer Together → Gathered
-gatheredOf (ok g) = gathered.All (record { flat = record { count = g .flat .number; types = g .flat .types }; borrow = g .borrow })
+gatheredOf (ok g) = gathered.All (record { flat = record { count = g .flat .number; types = g .flat .types }; reach = record { 0 = g .reach } })
 gatheredOf (refused x p) = gathered.Refused (refusalOf x) (record { 0 = p })
 
 gathered-back : (r : Gathered) → gatheredOf (gatheredMeans r) ≡ r
@@ -103,16 +103,15 @@ canonical-abi-one κs t n w r q g h = told typeMeans typeOf type-back r q (g ∙
 pub size-align-one :
     (κs : Lfts 1) (m : Memory) (t : RefT (List ℕ)) (n w : ℕ) (r q : LayoutAnswer) →
     size-align.Post κs (m, (t, (n, (w, tt)))) r (m, (t, (n, (w, tt)))) → size-align.Post κs (m, (t, (n, (w, tt)))) q (m, (t, (n, (w, tt)))) → r ≡ q
-size-align-one κs m t n w r q g h = told answerMeans layoutOf layout-back r q (g ∙ sym h)
+size-align-one κs m t n w r q g h = told layoutAnswerMeans layoutOf layout-back r q (g ∙ sym h)
 
 pub gather-one :
-    (κs : Lfts 2) (m : Memory) (t : RefT (List ℕ)) (n : ℕ) (ws : RefT (List ℕ)) (p : ℕ) (r q : Gathered) →
-    gather.Post κs (m, (t, (n, (ws, (p, tt))))) r (m, (t, (n, (ws, (p, tt))))) →
-    gather.Post κs (m, (t, (n, (ws, (p, tt))))) q (m, (t, (n, (ws, (p, tt))))) → r ≡ q
-gather-one κs m t n ws p r q g h = told gatheredMeans gatheredOf gathered-back r q (g ∙ sym h)
+    (κs : Lfts 2) (m : Memory) (t : RefT (List ℕ)) (n : ℕ) (ws : RefT (List ℕ)) (r q : Gathered) →
+    gather.Post κs (m, (t, (n, (ws, tt)))) r (m, (t, (n, (ws, tt)))) → gather.Post κs (m, (t, (n, (ws, tt)))) q (m, (t, (n, (ws, tt)))) → r ≡ q
+gather-one κs m t n ws r q g h = told gatheredMeans gatheredOf gathered-back r q (g ∙ sym h)
 
 pub placement-one :
     (κs : Lfts 3) (m : Memory) (t : RefT (List ℕ)) (n : ℕ) (ws o : RefT (List ℕ)) (r q : LayoutAnswer) (l k : List ℕ) →
     placement.Post κs (m, (t, (n, (ws, (o, tt))))) r (m, (t, (n, (ws, (at-last o l, tt))))) →
     placement.Post κs (m, (t, (n, (ws, (o, tt))))) q (m, (t, (n, (ws, (at-last o k, tt))))) → (r ≡ q) × (l ≡ k)
-placement-one κs m t n ws o r q l k g h = (told answerMeans layoutOf layout-back r q (g .0 ∙ sym (h .0)), g .1 ∙ sym (h .1))
+placement-one κs m t n ws o r q l k g h = (told layoutAnswerMeans layoutOf layout-back r q (g .0 ∙ sym (h .0)), g .1 ∙ sym (h .1))

@@ -1,27 +1,27 @@
 -- What the references of a list give together: all that the questions on signatures take from it.
-use mathlib.Core.Bool.{Bool}
 use mathlib.Core.List.{List}
 use Prim.Native.Nat.{ℕ}
 use Rattle.canon.specs.Answer.{Answer, ok, then, unless, tooLong, badRow}
 use Rattle.canon.specs.Layout.{Memory}
 use Rattle.canon.specs.Pack.{Packed}
+use Rattle.canon.specs.Reach.{reachWord}
 use Rattle.canon.specs.Row.{Info}
-use Rattle.canon.specs.Question.{read, infos, tooMany, noTable, someBorrow}
+use Rattle.canon.specs.Question.{read, infos, tooMany, noTable, reachAll}
 use Rattle.canon.specs.Signature.{flatAll}
 use Rattle.flat_types.specs.Lists.{packed}
 
+-- the flat list in one memory, and what is reached as word 15 has it
 pub record Together : Type 0 where
   pub flat : Packed
-  pub borrow : Bool
+  pub reach : ℕ
 
--- the flat list in one memory, and whether a Borrow is reached
 abbrev pub together : Memory → List Info → Together
-together m is′ = record { flat = packed (flatAll m is′); borrow = someBorrow is′ }
+together m is′ = record { flat = packed (flatAll m is′); reach = reachWord (reachAll is′) }
 
--- of references, the first at the position p
-abbrev pub togetherRefs : Memory → List ℕ → ℕ → ℕ → List ℕ → Answer Together
-togetherRefs m t n p ws = then (infos (read t n) p ws) (λ is′. ok (together m is′))
+-- of references; positions count from 0
+abbrev pub togetherRefs : Memory → List ℕ → ℕ → List ℕ → Answer Together
+togetherRefs m t n ws = then (infos (read t n) 0 ws) (λ is′. ok (together m is′))
 
 -- "TooLong, n", then each reference in order
-unfoldable pub gatherAnswer : Memory → List ℕ → ℕ → ℕ → List ℕ → Answer Together
-gatherAnswer m t n p ws = unless (tooMany ws) tooLong (unless (noTable t n) badRow (togetherRefs m t n p ws))
+unfoldable pub gatherAnswer : Memory → List ℕ → ℕ → List ℕ → Answer Together
+gatherAnswer m t n ws = unless (tooMany ws) tooLong (unless (noTable t n) badRow (togetherRefs m t n ws))

@@ -1,4 +1,4 @@
 -- What the promises of this crate cite beside canon.
-pub mod Means
 pub mod Gathers
+pub mod Means
 pub mod Steps

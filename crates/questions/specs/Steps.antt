@@ -1,54 +1,65 @@
 -- The steps of the inner functions, as the code takes them; proofs/ carries them to canon.
-use mathlib.Core.Bool.{Bool, cond, _||_, _&&_}
-use mathlib.Core.List.{List, _++_}
-use Prim.Native.Nat.{ℕ, _-_}
-use lib.Dec.{leb}
-use Rattle.canon.specs.Answer.{Answer, ok, refused, then, lift2, tooLarge}
-use Rattle.canon.specs.Layout.{Memory, Layout}
-use Rattle.canon.specs.Row.{goodLayout, isDiscriminant}
-use Rattle.canon.specs.Question.{read, infos, Placing, placed, layoutsIn}
-use Rattle.types.specs.Means.{layoutMeans}
-use Rattle.types.specs.Extents.{startExtent, memberOf, closeOf}
-use Rattle.flat_types.specs.Lists.{unpacked, packed, flatIn, goodFlat}
-use Rattle.table.specs.declared.info.Info.{Info}
+use mathlib.Core.Bool.{cond}
+use mathlib.Core.List.{List, map}
+use mathlib.Core.Path.{_≡_}
+use Prim.Native.Nat.{ℕ, _/_, _%_, _<_, _≤_}
+use lib.ListN.{length, getD}
+use Rattle.canon.specs.Answer.{Leaf, is, andThen, Answer, ok, refused, then, tooLarge}
+use Rattle.canon.specs.Layout.{Memory, within, Layout, starts, lastEnd, largestNumber}
+use Rattle.canon.specs.Reach.{joinReach, reachWord, wordReach}
+use Rattle.canon.specs.Row.{Info, flatOf}
+use Rattle.canon.specs.Question.{read, infos, Placing, placed, layoutsIn, bufferAfter}
+use Rattle.canon.proofs.Tightest.{Aligned}
+use Rattle.canon.specs.Placement.{fourGiB}
+use Rattle.types.specs.Extents.{startExtent, memberOf as memberStep, closeOf, isLarge, layoutOf as extentLayout}
+use Rattle.types.specs.declared.extent.Extent.{Extent}
+use Rattle.flat_types.specs.Lists.{packed}
+use Rattle.flat_types.specs.Places.{appendTo}
 use Rattle.table.specs.declared.info.MemberPosition.{MemberPosition}
-use Rattle.table.specs.declared.row.Marks.{Marks}
 use Rattle.questions.specs.Gathers.{Together}
-use Rattle.questions.specs.declared.placing.Placed.{Placed}
+use Rattle.questions.specs.Means.{layoutAnswerMeans}
+use Rattle.questions.specs.declared.answer.LayoutAnswer.{LayoutAnswer}
+use Rattle.questions.specs.declared.placed.Placed.{Placed}
 
--- 01, a row is well formed: the words that no info has
+-- what a question takes of what is read
+abbrev pub part : {A : Type 0} → (Info → A) → Leaf Info → Leaf A
+part f l = andThen l (λ i. is (f i))
 
-unfoldable pub goodRest : Marks → Bool
-goodRest k = isDiscriminant (k .discriminant) && leb (k .borrow) 1
+-- Lists
 
-unfoldable pub goodForm : Info → Marks → Bool
-goodForm i k =
-    leb 1 (k .kind)
-    && (leb (k .kind) 10
-    && (goodLayout (layoutMeans (i .in32)) && (goodLayout (layoutMeans (i .in64)) && (goodFlat (i .flat) && goodRest k))))
+-- what one info gives
+abbrev pub alone : Memory → Info → Together
+alone m i = record { flat = packed (flatOf m i); reach = reachWord (i .reach) }
 
--- one member's info more
-unfoldable pub withInfo : Memory → Together → Info → Together
-withInfo m g i =
-    record {
-      flat = packed (lift2 _++_ (unpacked (g .flat)) (unpacked (packed (flatIn m (i .flat)))));
-      borrow = g .borrow || i .borrow;
-    }
+-- and one more
+abbrev pub withMore : Together → Together → Together
+withMore g h = record { flat = appendTo 16 (g .flat) (h .flat); reach = reachWord (joinReach (wordReach (g .reach)) (wordReach (h .reach))) }
+
+-- Placement
+
+abbrev pub layoutOf : Memory → Info → Layout
+layoutOf m i = within m (i .abi .layouts)
+
+abbrev pub memberOf : Memory → List ℕ → ℕ → ℕ → Leaf Layout
+memberOf m t n w = part (layoutOf m) (read t n w)
 
 abbrev pub startPlace : Placed
 startPlace = record { extent = startExtent; offset = 0; over = record { 0 = 0 } }
 
--- one member more at a position: its start is its end less its size; the first whose end passes is remembered
+-- one member more at a position; it is remembered while the members before it fit
 unfoldable pub nextPlace : Placed → Layout → MemberPosition → Placed
 nextPlace p f k =
-    cond (p .extent .large) (record { extent = memberOf (p .extent) f; offset = 0; over = p .over })
-    (cond (memberOf (p .extent) f .large) (record { extent = memberOf (p .extent) f; offset = 0; over = k })
-    (record { extent = memberOf (p .extent) f; offset = memberOf (p .extent) f .end - f .size; over = p .over }))
+    record {
+      extent = memberStep (p .extent) f .extent;
+      offset = memberStep (p .extent) f .start % fourGiB;
+      over = cond (isLarge (p .extent)) (p .over) k;
+    }
+
+abbrev closed : Extent → Answer Layout
+closed x = cond (isLarge x) (refused tooLarge 0) (ok (extentLayout x))
 
 unfoldable pub finished : Placed → Answer Layout
-finished p =
-    cond (closeOf (p .extent) .large) (refused tooLarge (p .over .0))
-    (ok (record { size = closeOf (p .extent) .end; align = closeOf (p .extent) .align }))
+finished p = cond (isLarge (p .extent)) (refused tooLarge (p .over .0)) (closed (closeOf (p .extent)))
 
 -- the placement of references after the tests before them
 abbrev pub placedRefs : Memory → List ℕ → ℕ → List ℕ → Answer Placing
@@ -56,3 +67,34 @@ placedRefs m t n ws = then (infos (read t n) 0 ws) (λ is′. placed (layoutsIn 
 
 abbrev pub layoutPart : Answer Placing → Answer Layout
 layoutPart a = then a (λ p. ok (p .layout))
+
+-- it is answered, and the buffer is what it leaves there
+pub record Places (m : Memory) (t : List ℕ) (n : ℕ) (ws out : List ℕ) (r : LayoutAnswer) (after : List ℕ) : Type 0 where
+  pub answer : layoutAnswerMeans r ≡ layoutPart (placedRefs m t n ws)
+  pub buffer : after ≡ bufferAfter (placedRefs m t n ws) out
+
+-- The memo: a word for each reference, its alignment above its size; 0 where none was read
+
+abbrev pub memoLayout : ℕ → Layout
+memoLayout x = record { size = x % fourGiB; align = x / fourGiB }
+
+-- what is there is what the reference gives
+abbrev pub Remembers : (ℕ → Leaf Layout) → List ℕ → Type 0
+Remembers look memo = (w : ℕ) → 0 < getD memo w 0 → look w ≡ is (memoLayout (getD memo w 0))
+
+-- after a reference was looked up: nothing is forgotten, and where it gives a layout it is there
+pub record Recalled (look : ℕ → Leaf Layout) (w : ℕ) (before after : List ℕ) : Type 0 where
+  pub holds : Remembers look after
+  pub keeps : (v : ℕ) → 0 < getD before v 0 → 0 < getD after v 0
+  pub found : (f : Layout) → look w ≡ is f → 0 < getD after w 0
+
+-- the layouts of references that are all there
+abbrev pub known : List ℕ → List ℕ → List Layout
+known memo ws = map (λ (w : ℕ). memoLayout (getD memo w 0)) ws
+
+-- all are there, and they fit one after another at these offsets
+pub record Ready (memo ws offsets : List ℕ) : Type 0 where
+  pub there : (k : ℕ) → k < length ws → 0 < getD memo (getD ws k 0) 0
+  pub aligned : Aligned (known memo ws)
+  pub fits : lastEnd 0 (known memo ws) ≤ largestNumber
+  pub offsets-are : offsets ≡ starts 0 (known memo ws)

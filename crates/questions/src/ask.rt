@@ -1,27 +1,50 @@
 // The questions on one reference.
 ghost use mathlib.Core.Path.{_≡_};
+ghost use mathlib.Core.Bool.{false};
 ghost use Prim.Native.Nat.{_≤_};
 ghost use Rattle.canon.specs.Answer.{atPosition};
-ghost use Rattle.canon.specs.Layout.{within};
 ghost use Rattle.canon.specs.Row.{countOf};
-ghost use Rattle.canon.specs.Question.{typeAnswer, sizeAlignAnswer};
-ghost use Rattle.types.specs.Means.{countMeans, layoutMeans};
-ghost use Rattle.flat_types.specs.Lists.{memoryOf};
+ghost use Rattle.canon.specs.Question.{read, noTable, typeAnswer, sizeAlignAnswer};
+ghost use Rattle.types.specs.Means.{memoryOf, countMeans};
 ghost use Rattle.table.specs.Means.{infoMeans};
-ghost use Rattle.questions.specs.Means.{readingMeans, typeInfoMeans, typeMeans, answerMeans};
+ghost use Rattle.questions.specs.Means.{readingMeans, typeInfoMeans, typeMeans, layoutAnswerMeans};
 use crate::answer::LayoutAnswer;
 use crate::answer::TypeAnswer;
 use crate::answer::TypeInfo;
-use crate::read::Reading;
+use crate::read::Defined;
 use crate::read::no_table;
-use crate::read::read;
-use flat_types::Memory;
+use crate::read::row_of;
+use table::FIRST_DEFINITION;
+use table::Found;
 use table::Info;
 use table::MemberPosition;
+use table::plain_info;
+use table::row_info;
 use types::CanonicalAbiInfo;
 use types::FlatCount;
-use types::Layout;
+use types::Memory;
 use types::Refusal;
+
+enum Reading {
+    Info(Info),
+    Refused(Refusal),
+}
+
+fn read(table: &[u32], n: u32, reference: u32) -> Reading
+    requires { ⌜ noTable (now table) n ≡ false ⌝ }
+    ensures { λ r. ⌜ readingMeans r ≡ read (now (table .entry)) n reference ⌝ }
+{
+    if reference < FIRST_DEFINITION {
+        return match plain_info(reference) {
+            Found::Info(info) => Reading::Info(info),
+            Found::BadRef => Reading::Refused(Refusal::BadRef),
+        };
+    }
+    match row_of(table, n, reference) {
+        Defined::Row(index) => Reading::Info(row_info(table, index)),
+        Defined::Refused(why) => Reading::Refused(why),
+    }
+}
 
 // One reference, after the test of the table.
 fn read_one(table: &[u32], n: u32, reference: u32) -> Reading
@@ -49,20 +72,20 @@ fn type_info(info: Info) -> TypeInfo
     requires { ⌜ info .flat .count ≤ 255 ⌝ }
     ensures { λ r. ⌜ typeInfoMeans r ≡ infoMeans info ⌝ }
 {
-    let in32 = info.in32;
-    let in64 = info.in64;
+    let layouts = info.layouts;
     let flat = info.flat;
+    let reach = info.reach;
     TypeInfo {
         abi: CanonicalAbiInfo {
-            size32: in32.size,
-            align32: in32.align,
-            size64: in64.size,
-            align64: in64.align,
+            size32: layouts.in32.size,
+            align32: layouts.in32.align,
+            size64: layouts.in64.size,
+            align64: layouts.in64.align,
             flat_count: flat_count(flat.count),
         },
-        flat32: flat.memory32,
-        flat64: flat.memory64,
-        borrow: info.borrow,
+        flat32: flat.word32(),
+        flat64: flat.word64(),
+        borrow: reach.is_borrow(),
     }
 }
 
@@ -75,21 +98,15 @@ pub fn canonical_abi(table: &[u32], n: u32, reference: u32) -> TypeAnswer
     }
 }
 
-pub(crate) fn layout_in(info: Info, memory: Memory) -> Layout
-    ensures { λ r. ⌜ layoutMeans r ≡ within (memoryOf memory) (infoMeans info .abi .layouts) ⌝ }
-{
-    match memory {
-        Memory::Memory32 => info.in32,
-        Memory::Memory64 => info.in64,
-    }
-}
-
 // Size and alignment in one memory.
 pub fn size_align(memory: Memory, table: &[u32], n: u32, reference: u32) -> LayoutAnswer
-    ensures { λ r. ⌜ answerMeans r ≡ sizeAlignAnswer (memoryOf memory) (now (table .entry)) n reference ⌝ }
+    ensures { λ r. ⌜ layoutAnswerMeans r ≡ sizeAlignAnswer (memoryOf memory) (now (table .entry)) n reference ⌝ }
 {
     match read_one(table, n, reference) {
-        Reading::Info(info) => LayoutAnswer::Layout(layout_in(info, memory)),
+        Reading::Info(info) => {
+            let layouts = info.layouts;
+            LayoutAnswer::Layout(layouts.in_memory(memory))
+        }
         Reading::Refused(why) => LayoutAnswer::Refused(why, MemberPosition(0)),
     }
 }

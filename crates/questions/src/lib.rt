@@ -2,6 +2,8 @@
 mod answer;
 mod ask;
 mod list;
+mod member;
+mod placed;
 mod placing;
 mod read;
 

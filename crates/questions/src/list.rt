@@ -1,26 +1,31 @@
-// What the references of a list give together: the flat list in one memory, and whether a Borrow is reached.
+// What the references of a list give together: the flat list in one memory, and what they reach.
 ghost use mathlib.Core.Path.{_≡_};
 ghost use mathlib.Core.Bool.{false};
 ghost use Prim.Native.Nat.{_≤_};
 ghost use lib.ListN.{length};
-ghost use Rattle.canon.specs.Question.{noTable};
-ghost use Rattle.flat_types.specs.Lists.{memoryOf};
-ghost use Rattle.questions.specs.Means.{gatheringMeans, gatheredMeans};
+ghost use Rattle.canon.specs.Question.{read, noTable};
+ghost use Rattle.types.specs.Means.{memoryOf};
+ghost use Rattle.questions.specs.Means.{nextMeans, gatheringMeans, gatheredMeans};
 ghost use Rattle.questions.specs.Gathers.{togetherRefs, gatherAnswer};
-ghost use Rattle.questions.specs.Steps.{withInfo};
-use crate::read::Reading;
+ghost use Rattle.questions.specs.Steps.{part, alone, withMore};
+use crate::read::Defined;
 use crate::read::no_table;
-use crate::read::read;
+use crate::read::row_of;
 use crate::read::too_many;
 use flat_types::FlatList;
-use flat_types::Memory;
-use table::Info;
+use table::FIRST_DEFINITION;
+use table::Found;
 use table::MemberPosition;
+use table::Reach;
+use table::plain_info;
+use table::row_flat;
+use table::row_reach;
+use types::Memory;
 use types::Refusal;
 
 pub struct Gathering {
     pub flat: FlatList,
-    pub borrow: bool,
+    pub reach: Reach,
 }
 
 pub enum Gathered {
@@ -28,51 +33,79 @@ pub enum Gathered {
     Refused(Refusal, MemberPosition),
 }
 
+// What one reference gives.
+enum Next {
+    One(Gathering),
+    Refused(Refusal),
+}
+
 const NOTHING: Gathering = Gathering {
     flat: FlatList::EMPTY,
-    borrow: false,
+    reach: Reach::NONE,
 };
 
 impl Gathering {
     // One more member's.
-    fn with(self, info: Info, memory: Memory) -> Gathering
-        ensures { λ r. ⌜ gatheringMeans r ≡ withInfo (memoryOf memory) (gatheringMeans self) info ⌝ }
+    fn with(self, next: Gathering) -> Gathering
+        ensures { λ r. ⌜ gatheringMeans r ≡ withMore (gatheringMeans self) (gatheringMeans next) ⌝ }
     {
         let flat = self.flat;
-        let types = info.flat;
-        let next = types.in_memory(memory);
+        let reach = self.reach;
         Gathering {
-            flat: flat.append(next),
-            borrow: self.borrow | info.borrow,
+            flat: flat.append(next.flat),
+            reach: reach.join(next.reach),
         }
     }
 }
 
+fn read_next(memory: Memory, table: &[u32], n: u32, reference: u32) -> Next
+    requires { ⌜ noTable (now table) n ≡ false ⌝ }
+    ensures { λ r. ⌜ nextMeans r ≡ part (alone (memoryOf memory)) (read (now (table .entry)) n reference) ⌝ }
+{
+    if reference < FIRST_DEFINITION {
+        return match plain_info(reference) {
+            Found::Info(info) => {
+                let flat = info.flat;
+                let reach = info.reach;
+                Next::One(Gathering {
+                    flat: flat.in_memory(memory),
+                    reach,
+                })
+            }
+            Found::BadRef => Next::Refused(Refusal::BadRef),
+        };
+    }
+    match row_of(table, n, reference) {
+        Defined::Row(index) => Next::One(Gathering {
+            flat: row_flat(table, index, memory),
+            reach: row_reach(table, index),
+        }),
+        Defined::Refused(why) => Next::Refused(why),
+    }
+}
+
 // Each reference in order.
-fn gather_all(memory: Memory, table: &[u32], n: u32, references: &[u32], first: u16) -> Gathered
+fn gather_all(memory: Memory, table: &[u32], n: u32, references: &[u32]) -> Gathered
     requires { ⌜ (noTable (now table) n ≡ false) × (length (now references) ≤ 16384) ⌝ }
-    ensures { λ r. ⌜ gatheredMeans r ≡ togetherRefs (memoryOf memory) (now (table .entry)) n first (now (references .entry)) ⌝ }
+    ensures { λ r. ⌜ gatheredMeans r ≡ togetherRefs (memoryOf memory) (now (table .entry)) n (now (references .entry)) ⌝ }
 {
     let mut all = NOTHING;
     let mut k: usize = 0;
     while k < references.len() {
-        match read(table, n, references[k]) {
-            Reading::Info(info) => {
-                all = all.with(info, memory);
+        match read_next(memory, table, n, references[k]) {
+            Next::One(next) => {
+                all = all.with(next);
             }
-            Reading::Refused(why) => {
-                let position = first as usize + k;
-                return Gathered::Refused(why, MemberPosition(position as u32));
-            }
+            Next::Refused(why) => return Gathered::Refused(why, MemberPosition(k as u32)),
         }
         k += 1;
     }
     Gathered::All(all)
 }
 
-// The one pass over a list whose first reference has the position `first`: so many stand before it, 16,384 at most.
-pub fn gather(memory: Memory, table: &[u32], n: u32, references: &[u32], first: u16) -> Gathered
-    ensures { λ r. ⌜ gatheredMeans r ≡ gatherAnswer (memoryOf memory) (now (table .entry)) n first (now (references .entry)) ⌝ }
+// The one pass over a list; positions count from 0.
+pub fn gather(memory: Memory, table: &[u32], n: u32, references: &[u32]) -> Gathered
+    ensures { λ r. ⌜ gatheredMeans r ≡ gatherAnswer (memoryOf memory) (now (table .entry)) n (now (references .entry)) ⌝ }
 {
     if too_many(references) {
         return Gathered::Refused(Refusal::TooLong, MemberPosition(0));
@@ -80,5 +113,5 @@ pub fn gather(memory: Memory, table: &[u32], n: u32, references: &[u32], first: 
     if no_table(table, n) {
         return Gathered::Refused(Refusal::BadRow, MemberPosition(0));
     }
-    gather_all(memory, table, n, references, first)
+    gather_all(memory, table, n, references)
 }

@@ -1,87 +1,27 @@
-// Placement in one memory: each row is read once, the offsets are staged, and written when all is accepted.
+// Placement in one memory. Up to 1,024 offsets are staged and copied when all is accepted. More are placed twice: the first pass judges and
+// remembers each layout, the second writes.
 ghost use mathlib.Core.Path.{_≡_};
 ghost use mathlib.Core.Bool.{false};
-ghost use mathlib.Core.List.{_++_};
+ghost use mathlib.Core.List.{_++_, map};
 ghost use Prim.Native.Nat.{_≤_};
 ghost use lib.ListN.{length, take, drop};
 ghost use Rattle.canon.specs.Answer.{ok};
-ghost use Rattle.canon.specs.Question.{noTable, Placing, written, placementAnswer, offsetsAfter};
-ghost use Rattle.types.specs.Means.{layoutMeans};
-ghost use Rattle.flat_types.specs.Lists.{memoryOf};
-ghost use Rattle.questions.specs.Means.{answerMeans};
-ghost use Rattle.questions.specs.Steps.{startPlace, nextPlace, finished, placedRefs, layoutPart};
+ghost use Rattle.canon.specs.Layout.{starts};
+ghost use Rattle.canon.specs.Question.{noTable, Placing, placementAnswer, offsetsAfter};
+ghost use Rattle.types.specs.Means.{memoryOf};
+ghost use Rattle.questions.specs.Means.{layoutAnswerMeans};
+ghost use Rattle.questions.specs.Steps.{placedRefs, layoutPart, memberOf, Remembers, known, Ready, Places};
 use crate::answer::LayoutAnswer;
-use crate::ask::layout_in;
-use crate::read::Reading;
+use crate::member::Member;
+use crate::member::memo_layout;
+use crate::member::read_member;
+use crate::member::recall;
+use crate::placed::Placed;
 use crate::read::no_table;
-use crate::read::read;
 use crate::read::too_many;
-use flat_types::Memory;
 use table::MemberPosition;
-use types::Extent;
-use types::Layout;
+use types::Memory;
 use types::Refusal;
-
-// The members so far: their extent, where the last of them starts, and which is the first whose end passes.
-struct Placed {
-    extent: Extent,
-    offset: u32,
-    over: MemberPosition,
-}
-
-impl Placed {
-    fn start() -> Placed
-        ensures { λ r. ⌜ r ≡ startPlace ⌝ }
-    {
-        Placed {
-            extent: Extent::start(),
-            offset: 0,
-            over: MemberPosition(0),
-        }
-    }
-
-    fn next(self, member: Layout, position: MemberPosition) -> Placed
-        ensures { λ r. ⌜ r ≡ nextPlace self (layoutMeans member) position ⌝ }
-    {
-        let before = self.extent;
-        let over = self.over;
-        let extent = before.member(member);
-        if before.large {
-            return Placed {
-                extent,
-                offset: 0,
-                over,
-            };
-        }
-        if extent.large {
-            return Placed {
-                extent,
-                offset: 0,
-                over: position,
-            };
-        }
-        Placed {
-            extent,
-            offset: extent.end - member.size,
-            over,
-        }
-    }
-
-    fn finish(self) -> LayoutAnswer
-        ensures { λ r. ⌜ answerMeans r ≡ finished self ⌝ }
-    {
-        let extent = self.extent;
-        let over = self.over;
-        let whole = extent.close();
-        if whole.large {
-            return LayoutAnswer::Refused(Refusal::TooLarge, over);
-        }
-        LayoutAnswer::Layout(Layout {
-            size: whole.end,
-            align: whole.align,
-        })
-    }
-}
 
 // The answer, and each reference's offset into the stage.
 fn fill(
@@ -92,19 +32,18 @@ fn fill(
     stage: &mut [u32],
 ) -> LayoutAnswer
     requires { ⌜ (noTable (now table) n ≡ false) × (length (now references) ≤ 16384) × (length (now references) ≤ length (now stage)) ⌝ }
-    ensures { λ r. ⌜ answerMeans r ≡ layoutPart (placedRefs (memoryOf memory) (now (table .entry)) n (now (references .entry))) ⌝ }
+    ensures { λ r. ⌜ layoutAnswerMeans r ≡ layoutPart (placedRefs (memoryOf memory) (now (table .entry)) n (now (references .entry))) ⌝ }
     ensures { λ _. ⌜ ((p : Placing) → placedRefs (memoryOf memory) (now (table .entry)) n (now (references .entry)) ≡ ok p → p .offsets ≡ take (length (now (references .entry))) (now (stage .exit))) ⌝ }
 {
-    let mut placed = Placed::start();
+    let mut placed = Placed::NONE;
     let mut k: usize = 0;
     while k < references.len() {
-        match read(table, n, references[k]) {
-            Reading::Info(info) => {
-                let member = layout_in(info, memory);
-                placed = placed.next(member, MemberPosition(k as u32));
+        match read_member(memory, table, n, references[k]) {
+            Member::Layout(layout) => {
+                placed = placed.next(layout, MemberPosition(k as u32));
                 stage[k] = placed.offset;
             }
-            Reading::Refused(why) => return LayoutAnswer::Refused(why, MemberPosition(k as u32)),
+            Member::Refused(why) => return LayoutAnswer::Refused(why, MemberPosition(k as u32)),
         }
         k += 1;
     }
@@ -122,7 +61,7 @@ fn copy(from: &[u32], count: usize, out: &mut [u32])
     }
 }
 
-fn place_in(
+fn place_staged(
     memory: Memory,
     table: &[u32],
     n: u32,
@@ -131,8 +70,7 @@ fn place_in(
     out: &mut [u32],
 ) -> LayoutAnswer
     requires { ⌜ (noTable (now table) n ≡ false) × (length (now references) ≤ 16384) × (length (now references) ≤ length (now stage)) × (length (now references) ≤ length (now out)) ⌝ }
-    ensures { λ r. ⌜ answerMeans r ≡ layoutPart (placedRefs (memoryOf memory) (now (table .entry)) n (now (references .entry))) ⌝ }
-    ensures { λ _. ⌜ now (out .exit) ≡ written (placedRefs (memoryOf memory) (now (table .entry)) n (now (references .entry))) (now (out .entry)) ⌝ }
+    ensures { λ r. ⌜ Places (memoryOf memory) (now (table .entry)) n (now (references .entry)) (now (out .entry)) r (now (out .exit)) ⌝ }
 {
     match fill(memory, table, n, references, stage) {
         LayoutAnswer::Layout(layout) => {
@@ -143,22 +81,113 @@ fn place_in(
     }
 }
 
-// The stage is cleared first, which takes longer than a short list.
-fn place(memory: Memory, table: &[u32], n: u32, references: &[u32], out: &mut [u32]) -> LayoutAnswer
+// The answer, and each reference's layout in the memo.
+fn judge(
+    memory: Memory,
+    table: &[u32],
+    n: u32,
+    references: &[u32],
+    memo: &mut [u64],
+) -> LayoutAnswer
+    requires { ⌜ (noTable (now table) n ≡ false) × (length (now references) ≤ 16384) × (length (now memo) ≡ 1088) × Remembers (memberOf (memoryOf memory) (now table) n) (now memo) ⌝ }
+    ensures { λ r. ⌜ layoutAnswerMeans r ≡ layoutPart (placedRefs (memoryOf memory) (now (table .entry)) n (now (references .entry))) ⌝ }
+    ensures { λ _. ⌜ ((p : Placing) → placedRefs (memoryOf memory) (now (table .entry)) n (now (references .entry)) ≡ ok p → Ready (now (memo .exit)) (now (references .entry)) (p .offsets)) ⌝ }
+{
+    let mut placed = Placed::NONE;
+    let mut k: usize = 0;
+    while k < references.len() {
+        match recall(memory, table, n, references[k], memo) {
+            Member::Layout(layout) => {
+                placed = placed.next(layout, MemberPosition(k as u32));
+            }
+            Member::Refused(why) => return LayoutAnswer::Refused(why, MemberPosition(k as u32)),
+        }
+        k += 1;
+    }
+    placed.finish()
+}
+
+// The offsets of references whose layouts the memo has.
+fn write(references: &[u32], memo: &[u64], out: &mut [u32])
+    requires { ⌜ (length (now references) ≤ 16384) × (length (now memo) ≡ 1088) × (length (now references) ≤ length (now out)) × Ready (now memo) (now references) (starts 0 (known (now memo) (now references))) ⌝ }
+    ensures { λ _. ⌜ now (out .exit) ≡ starts 0 (known (now (memo .entry)) (now (references .entry))) ++ drop (length (now (references .entry))) (now (out .entry)) ⌝ }
+{
+    let mut placed = Placed::NONE;
+    let mut k: usize = 0;
+    while k < references.len() {
+        let word = memo[references[k] as usize];
+        placed = placed.next(memo_layout(word), MemberPosition(k as u32));
+        out[k] = placed.offset;
+        k += 1;
+    }
+}
+
+// Each array has a function of its own. It is cleared first, which takes longer than a short list.
+fn place_short(
+    memory: Memory,
+    table: &[u32],
+    n: u32,
+    references: &[u32],
+    out: &mut [u32],
+) -> LayoutAnswer
+    requires { ⌜ (noTable (now table) n ≡ false) × (length (now references) ≤ 64) × (length (now references) ≤ length (now out)) ⌝ }
+    ensures { λ r. ⌜ Places (memoryOf memory) (now (table .entry)) n (now (references .entry)) (now (out .entry)) r (now (out .exit)) ⌝ }
+{
+    let mut stage = [0u32; 64];
+    place_staged(memory, table, n, references, &mut stage, out)
+}
+
+fn place_middle(
+    memory: Memory,
+    table: &[u32],
+    n: u32,
+    references: &[u32],
+    out: &mut [u32],
+) -> LayoutAnswer
+    requires { ⌜ (noTable (now table) n ≡ false) × (length (now references) ≤ 1024) × (length (now references) ≤ length (now out)) ⌝ }
+    ensures { λ r. ⌜ Places (memoryOf memory) (now (table .entry)) n (now (references .entry)) (now (out .entry)) r (now (out .exit)) ⌝ }
+{
+    let mut stage = [0u32; 1024];
+    place_staged(memory, table, n, references, &mut stage, out)
+}
+
+fn place_long(
+    memory: Memory,
+    table: &[u32],
+    n: u32,
+    references: &[u32],
+    out: &mut [u32],
+) -> LayoutAnswer
     requires { ⌜ (noTable (now table) n ≡ false) × (length (now references) ≤ 16384) × (length (now references) ≤ length (now out)) ⌝ }
-    ensures { λ r. ⌜ answerMeans r ≡ layoutPart (placedRefs (memoryOf memory) (now (table .entry)) n (now (references .entry))) ⌝ }
-    ensures { λ _. ⌜ now (out .exit) ≡ written (placedRefs (memoryOf memory) (now (table .entry)) n (now (references .entry))) (now (out .entry)) ⌝ }
+    ensures { λ r. ⌜ Places (memoryOf memory) (now (table .entry)) n (now (references .entry)) (now (out .entry)) r (now (out .exit)) ⌝ }
+{
+    let mut memo = [0u64; 1088];
+    match judge(memory, table, n, references, &mut memo) {
+        LayoutAnswer::Layout(layout) => {
+            write(references, &memo, out);
+            LayoutAnswer::Layout(layout)
+        }
+        LayoutAnswer::Refused(why, position) => LayoutAnswer::Refused(why, position),
+    }
+}
+
+fn place_all(
+    memory: Memory,
+    table: &[u32],
+    n: u32,
+    references: &[u32],
+    out: &mut [u32],
+) -> LayoutAnswer
+    requires { ⌜ (noTable (now table) n ≡ false) × (length (now references) ≤ 16384) × (length (now references) ≤ length (now out)) ⌝ }
+    ensures { λ r. ⌜ Places (memoryOf memory) (now (table .entry)) n (now (references .entry)) (now (out .entry)) r (now (out .exit)) ⌝ }
 {
     if references.len() <= 64 {
-        let mut short = [0u32; 64];
-        return place_in(memory, table, n, references, &mut short, out);
+        return place_short(memory, table, n, references, out);
     }
     if references.len() <= 1024 {
-        let mut middle = [0u32; 1024];
-        return place_in(memory, table, n, references, &mut middle, out);
+        return place_middle(memory, table, n, references, out);
     }
-    let mut long = [0u32; 16384];
-    place_in(memory, table, n, references, &mut long, out)
+    place_long(memory, table, n, references, out)
 }
 
 pub fn placement(
@@ -168,7 +197,7 @@ pub fn placement(
     references: &[u32],
     out: &mut [u32],
 ) -> LayoutAnswer
-    ensures { λ r. ⌜ answerMeans r ≡ placementAnswer (memoryOf memory) (now (table .entry)) n (now (references .entry)) (length (now (out .entry))) ⌝ }
+    ensures { λ r. ⌜ layoutAnswerMeans r ≡ placementAnswer (memoryOf memory) (now (table .entry)) n (now (references .entry)) (length (now (out .entry))) ⌝ }
     ensures { λ _. ⌜ now (out .exit) ≡ offsetsAfter (memoryOf memory) (now (table .entry)) n (now (references .entry)) (now (out .entry)) ⌝ }
 {
     if too_many(references) {
@@ -180,5 +209,5 @@ pub fn placement(
     if out.len() < references.len() {
         return LayoutAnswer::Refused(Refusal::NoRoom, MemberPosition(0));
     }
-    place(memory, table, n, references, out)
+    place_all(memory, table, n, references, out)
 }

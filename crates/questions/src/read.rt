@@ -1,18 +1,13 @@
-// One reference, and the tests before any reference is read.
+// The tests before any reference is read, and the test of a reference to a definition. What is then read of a row is the question's own:
+// each reader has one caller, so that the compiler puts it there.
 ghost use mathlib.Core.Path.{_≡_};
-ghost use mathlib.Core.Bool.{false};
-ghost use Rattle.canon.specs.Question.{readRow, read, tooMany, noTable};
-ghost use Rattle.table.specs.Rows.{rowIn};
-ghost use Rattle.questions.specs.Means.{readingMeans};
-ghost use Rattle.questions.specs.Steps.{goodRest, goodForm};
+ghost use mathlib.Core.Bool.{true, false};
+ghost use Prim.Native.Nat.{_≤_};
+ghost use Rattle.canon.specs.Question.{read, tooMany, noTable};
+ghost use Rattle.questions.specs.Means.{definedMeans, definedGood};
 use table::DefinitionIndex;
 use table::FIRST_DEFINITION;
-use table::Found;
-use table::Info;
-use table::Marks;
-use table::plain_info;
-use table::row_info;
-use table::row_marks;
+use table::is_good_row;
 use types::Refusal;
 
 const MOST_REFERENCES: usize = 16384;
@@ -21,8 +16,8 @@ const MOST_ROWS: u32 = 1024;
 
 const ROW_WORDS: usize = 16;
 
-pub enum Reading {
-    Info(Info),
+pub(crate) enum Defined {
+    Row(DefinitionIndex),
     Refused(Refusal),
 }
 
@@ -42,67 +37,19 @@ pub fn no_table(table: &[u32], n: u32) -> bool
     table.len() < ROW_WORDS * n as usize
 }
 
-// The discriminant's size is 0, 1, 2 or 4, the borrow 0 or 1.
-fn good_rest(marks: Marks) -> bool
-    ensures { λ r. ⌜ r ≡ goodRest marks ⌝ }
+// The row that a reference names, if it is there and of good form.
+pub(crate) fn row_of(table: &[u32], n: u32, reference: u32) -> Defined
+    requires { ⌜ (noTable (now table) n ≡ false) × (64 ≤ reference) ⌝ }
+    ensures { λ r. ⌜ (definedMeans (now (table .entry)) r ≡ read (now (table .entry)) n reference) × (definedGood (now (table .entry)) r ≡ true) ⌝ }
 {
-    if marks.discriminant == 3 {
-        return false;
-    }
-    if marks.discriminant > 4 {
-        return false;
-    }
-    marks.borrow <= 1
-}
-
-fn good_form(info: Info, marks: Marks) -> bool
-    ensures { λ r. ⌜ r ≡ goodForm info marks ⌝ }
-{
-    let in32 = info.in32;
-    let in64 = info.in64;
-    let flat = info.flat;
-    if marks.kind < 1 {
-        return false;
-    }
-    if marks.kind > 10 {
-        return false;
-    }
-    if in32.is_good() {
-        if in64.is_good() {
-            if flat.is_good() {
-                return good_rest(marks);
-            }
+    let index = DefinitionIndex(reference - FIRST_DEFINITION);
+    if index.0 < n {
+        if is_good_row(table, index) {
+            Defined::Row(index)
+        } else {
+            Defined::Refused(Refusal::BadRow)
         }
-    }
-    false
-}
-
-fn read_row(table: &[u32], index: DefinitionIndex) -> Reading
-    ensures { λ r. ⌜ readingMeans r ≡ readRow (rowIn (now (table .entry)) (index .0)) ⌝ }
-{
-    let info = row_info(table, index);
-    let marks = row_marks(table, index);
-    if good_form(info, marks) {
-        Reading::Info(info)
     } else {
-        Reading::Refused(Refusal::BadRow)
-    }
-}
-
-pub(crate) fn read(table: &[u32], n: u32, reference: u32) -> Reading
-    requires { ⌜ noTable (now table) n ≡ false ⌝ }
-    ensures { λ r. ⌜ readingMeans r ≡ read (now (table .entry)) n reference ⌝ }
-{
-    if reference < FIRST_DEFINITION {
-        return match plain_info(reference) {
-            Found::Info(info) => Reading::Info(info),
-            Found::BadRef => Reading::Refused(Refusal::BadRef),
-        };
-    }
-    let j = reference - FIRST_DEFINITION;
-    if j < n {
-        read_row(table, DefinitionIndex(j))
-    } else {
-        Reading::Refused(Refusal::BadRef)
+        Defined::Refused(Refusal::BadRef)
     }
 }

@@ -1,25 +1,24 @@
 -- The rule of a maximum over a list's words, and async return's rule of the pointer.
 use mathlib.Core.Path.{_≡_, refl, sym, _∙_}
-use mathlib.Core.Bool.{Bool, true, false, cond, not}
+use mathlib.Core.Bool.{Bool, true, false, cond}
 use mathlib.Core.List.{List, [], _∷_, _++_}
 use mathlib.Core.Option.{Option, none, some}
 use Prim.Native.Nat.{ℕ, _≤_, _<_}
 use native.Mathlib.Decide.{decLe}
 use native.Mathlib.Omega.{arith}
-use lib.Dec.{leb, eqb}
-use lib.ListN.{length}
-use borrow.Author.Tests.{le-leb, lt-leb, leb-true, lt-ltb, le-ltb, ne-eqb}
-use Rattle.canon.specs.Answer.{lift}
-use Rattle.canon.specs.Layout.{Memory}
-use Rattle.canon.specs.Flat.{Core, ptrType}
-use Rattle.canon.specs.Pack.{Packed, pack, unpack}
-use Rattle.canon.specs.Row.{Info}
-use Rattle.canon.specs.Signature.{listed, inMemory, flatAll, atMost, orPointer, behindPointer, listOrNone}
+use lib.Dec.{leb, ltb}
+use lib.ListN.{length, length-append}
+use borrow.Author.Tests.{le-leb, lt-leb, leb-true, lt-ltb, le-ltb}
+use Rattle.canon.specs.Layout.{Memory, mem32, mem64}
+use Rattle.canon.specs.Flat.{ptrType}
+use Rattle.canon.specs.Pack.{Packed, code, pack}
+use Rattle.canon.specs.Signature.{listed, inMemory, atMost, Side, liftingMax, orPointer, behindPointer, listOrNone, returnOf}
+use Rattle.canon.specs.Types.{Core}
 use Rattle.flat_types.specs.Lists.{unpacked, packedTo, packed}
-use Rattle.flat_types.proofs.Listing.{packed-some, packed-none}
+use Rattle.flat_types.specs.Places.{appendTo}
+use Rattle.flat_types.proofs.Listing.{packed-some, packed-none, list-packed}
 use Rattle.flat_types.proofs.Gathering.{pointer-words}
-use Rattle.canon.proofs.Tests.{impossible}
-use Rattle.signature.specs.Packs.{packedList, isEmpty, behind}
+use Rattle.signature.specs.Packs.{packedList}
 
 -- a list within the maximum is there, and its words are its own; one beyond it lies in memory
 data Judged (o : Option (List Core)) (max : ℕ) (w : Packed) : Type 0 where
@@ -55,9 +54,10 @@ module _ (o : Option (List Core)) (max : ℕ) (w : Packed) (e : w ≡ packed o) 
 
 -- A list or a pointer
 
-pub pointer-alone : (m : Memory) → packedTo 17 (lift (λ l. l ++ ptrType m ∷ []) (unpacked (record { number = 0; types = 0 }))) ≡ packedList (ptrType m ∷ [])
-unfolding packedTo unpacked unpack
-pointer-alone m = refl
+pub pointer-alone : (m : Memory) → appendTo 17 (record { number = 0; types = 0 }) (record { number = 1; types = code (ptrType m) }) ≡ packedList (ptrType m ∷ [])
+unfolding appendTo pack
+pointer-alone mem32 = refl
+pointer-alone mem64 = refl
 
 pub params-short : (m : Memory) (max : ℕ) (o : Option (List Core)) → max ≤ 16 → length (orPointer m (atMost max o)) ≤ 16
 unfolding orPointer atMost
@@ -71,43 +71,67 @@ params-short m max (some l) h = go (leb (length l) max) refl
 -- a pointer behind the parameters
 pub pointer-behind :
     (m : Memory) (l : List Core) (w r : Packed) → length l ≤ 16 → w ≡ packedList l →
-    r ≡ packedTo 17 (lift (λ k. k ++ ptrType m ∷ []) (unpacked w)) → r ≡ packedList (l ++ ptrType m ∷ [])
-pointer-behind m l w r h e f = f ∙ rw (e ∙ sym (packed-some 16 l h)) (pointer-words m l h)
+    r ≡ appendTo 17 w (record { number = 1; types = code (ptrType m) }) → r ≡ packedList (l ++ ptrType m ∷ [])
+pointer-behind m l w r h e f =
+    f
+    ∙ rw (e ∙ sym (packed-some 16 l h))
+    (pointer-words m l h ∙ packed-some 17 (l ++ ptrType m ∷ []) (omega (arith, length-append l (ptrType m ∷ []))))
 
 -- Whether lower's results go behind a pointer, and what they are if not
 
-module _ (m : Memory) (js : List Info) (w : Packed) (e : w ≡ packed (flatAll m js)) where
-  pub behind-is : (async : Bool) → behind async (isEmpty js) (w .number) ≡ behindPointer async js (atMost 1 (flatAll m js))
-  unfolding behind behindPointer
-  behind-is true = go js
-    where
-      go : (ks : List Info) → not (isEmpty ks) ≡ behindPointer true ks (atMost 1 (flatAll m js))
-      go [] = refl
-      go (k ∷ ks) = refl
-  behind-is false =
+module _ (o : Option (List Core)) (w : Packed) (e : w ≡ packed o) where
+  pub behind-is : (empty : Bool) → ltb 1 (w .number) ≡ behindPointer false empty (atMost 1 o)
+  unfolding behindPointer
+  behind-is empty =
       elim (decLe (w .number) 1) [
-        | yes h ↦ rw (le-ltb 1 (w .number) h, is-listed (flatAll m js) 1 w e (omega arith) h .1)
-        | no h ↦ rw (lt-ltb 1 (w .number) (omega arith), is-beyond (flatAll m js) 1 w e (omega arith) (omega arith))
+        | yes h ↦ rw (le-ltb 1 (w .number) h, is-listed o 1 w e (omega arith) h .1)
+        | no h ↦ rw (lt-ltb 1 (w .number) (omega arith), is-beyond o 1 w e (omega arith) (omega arith))
       ]
 
-  pub results-are : (async : Bool) → behindPointer async js (atMost 1 (flatAll m js)) ≡ false → w ≡ packedList (listOrNone (atMost 1 (flatAll m js)))
-  unfolding behindPointer flatAll atMost packedTo pack
-  results-are true f = go js e f
-    where
-      go : (ks : List Info) → w ≡ packed (flatAll m ks) → behindPointer true ks (atMost 1 (flatAll m ks)) ≡ false → w ≡ packedList (listOrNone (atMost 1 (flatAll m ks)))
-      go [] g f = g
-      go (k ∷ ks) g f = impossible (cc)
-  results-are false f =
-      elim (decLe (w .number) 1) [
-        | yes h ↦ let r = is-listed (flatAll m js) 1 w e (omega arith) h in rw (r .1) (r .2)
-        | no h ↦ let r = is-beyond (flatAll m js) 1 w e (omega arith) (omega arith) in impossible (let g = rw r at f in cc)
-      ]
+  pub results-listed : w .number ≤ 1 → w ≡ packedList (listOrNone (atMost 1 o))
+  results-listed h = let r = is-listed o 1 w e (omega arith) h in rw (r .1) (r .2)
 
-pub empty-is : (js : List Info) (n : ℕ) → length js ≡ n → eqb n 0 ≡ isEmpty js
-empty-is [] n e = rw (← e)
-empty-is (j ∷ js) n e = ne-eqb n 0 (λ f. omega arith)
+  pub results-none : 1 < w .number → record { number = 0; types = 0 } ≡ packedList (listOrNone (atMost 1 o))
+  unfolding pack
+  results-none h = rw (is-beyond o 1 w e (omega arith) h)
 
 -- each of the two maxima is one that a list may have
 pub maximum-small : (b : Bool) (x y : ℕ) → x ≤ 16 → y ≤ 16 → cond b x y ≤ 16
 maximum-small true x y h g = h
 maximum-small false x y h g = g
+
+-- What was gathered
+
+-- the words of a list are those of what they stand for
+pub whole-packed : (o : Option (List Core)) (w : Packed) → w ≡ packed o → w ≡ packed (unpacked w)
+unfolding packedTo unpacked
+whole-packed o w e = rw e (go o)
+  where
+    go : (o : Option (List Core)) → packed o ≡ packed (unpacked (packed o))
+    go none = refl
+    go (some l) =
+        elim (decLe (length l) 16) [
+          | yes h ↦ rw (list-packed l h)
+          | no h ↦ rw (packed-none 16 l (omega arith))
+        ]
+
+-- under a maximum of up to 16 types they stand for the list itself
+pub at-most-packed : (max : ℕ) (o : Option (List Core)) (w : Packed) → max ≤ 16 → w ≡ packed o → atMost max (unpacked w) ≡ atMost max o
+unfolding packedTo unpacked atMost
+at-most-packed max o w small e = rw e (go o)
+  where
+    go : (o : Option (List Core)) → atMost max (unpacked (packed o)) ≡ atMost max o
+    go none = refl
+    go (some l) =
+        elim (decLe (length l) 16) [
+          | yes h ↦ rw (list-packed l h)
+          | no h ↦ rw (packed-none 16 l (omega arith), lt-leb (length l) max (omega arith))
+        ]
+
+-- a return over what the words stand for is one over the lists
+pub return-packed :
+    (lift lower : Side) (o q : Option (List Core)) (v w : Packed) (empty : Bool) → v ≡ packed o → w ≡ packed q →
+    returnOf lift (unpacked v) lower (unpacked w) empty ≡ returnOf lift o lower q empty
+unfolding returnOf
+return-packed lift lower o q v w empty e f =
+    rw (at-most-packed (liftingMax (lift .async)) o v (maximum-small (lift .async) 16 1 (omega arith) (omega arith)) e, at-most-packed 1 q w (omega arith) f)

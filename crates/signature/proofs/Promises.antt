@@ -1,37 +1,25 @@
 -- On a table that a build wrote, of a description ws into a buffer t₀, the questions answer for the types themselves.
 use mathlib.Core.Path.{_≡_, ap, _∙_}
 use mathlib.Core.Bool.{Bool}
-use mathlib.Core.List.{List, map}
+use mathlib.Core.List.{List}
+use mathlib.Core.Option.{Option}
 use Prim.Native.Nat.{ℕ, _≤_}
+use native.Mathlib.Omega.{arith}
+use lib.Dec.{eqb}
+use lib.ListN.{length}
 use borrow.Author.Tests.{le-ltb}
 use denote.Ref.{RefT, now}
 use contract.Lifetimes.{Lfts}
-use Rattle.canon.specs.Answer.{ok, then}
+use Rattle.canon.specs.Answer.{Answer, ok, then}
+use Rattle.canon.specs.Layout as layout
+use Rattle.canon.specs.Pack.{Packed}
 use Rattle.canon.specs.Types.{Ty}
-use Rattle.canon.specs.Row.{infoOf}
 use Rattle.canon.specs.Description.{tableAfter}
-use Rattle.canon.specs.Question.{borrowAnswer, someBorrow}
-use Rattle.canon.specs.Signature.{
-  flatAll,
-  Flattened,
-  atMost,
-  flattenAnswer,
-  Side,
-  paramsMax,
-  liftingMax,
-  Signature,
-  orPointer,
-  startOf,
-  asyncStartAnswer,
-  behindPointer,
-  listOrNone,
-  returned,
-  returnOf,
-  asyncReturnAnswer,
-}
-use Rattle.canon.proofs.Asked.{Names, ask-built, askTwo-built, flatTypes, flats-typed, borrowTypes, borrows-typed}
-use Rattle.flat_types.specs.Lists.{memoryOf}
-use Rattle.flat_types.specs.declared.memory.Memory.{Memory}
+use Rattle.canon.specs.Question.{borrowAnswer, reachAll}
+use Rattle.canon.specs.Signature.{flatAll, atMost, flattenAnswer, Side, loweringMax, liftingMax, Signature, startOf, asyncStartAnswer, returnOf, asyncReturnAnswer}
+use Rattle.canon.proofs.Questions.{Names, ask-built, askTwo-built, flatTypes, flats-typed, reachTypes, reaches-typed}
+use Rattle.types.specs.Means.{memoryOf}
+use Rattle.types.specs.declared.memory.Memory.{Memory}
 use Rattle.signature.specs.Means as means
 use Rattle.signature.specs.Means.{sideMeans}
 use Rattle.signature.specs.Packs.{packedFlat, packedFlattened, packedSignature, packedAnswer}
@@ -40,6 +28,9 @@ use Rattle.signature.specs.declared.flatten.Flattened as flattened
 use Rattle.signature.specs.declared.flatten.BorrowAnswer.{BorrowAnswer}
 use Rattle.signature.specs.declared.signatures.SignatureAnswer.{SignatureAnswer}
 use Rattle.signature.proofs.flatten.flatten_types.Reads as flatten-types
+use Rattle.signature.proofs.Maxima.{maximum-small}
+use Rattle.signature.proofs.flatten.flatten_lowering_types.Reads as flatten-lowering-types
+use Rattle.signature.proofs.flatten.flatten_lifting_types.Reads as flatten-lifting-types
 use Rattle.signature.proofs.flatten.contains_borrow_resource.Reads as contains-borrow-resource
 use Rattle.signature.proofs.signatures.async_start_signature.Reads as async-start-signature
 use Rattle.signature.proofs.signatures.async_return_signature.Reads as async-return-signature
@@ -49,48 +40,51 @@ use Rattle.signature.proofs.signatures.async_return_signature.Reads as 
 module _ (κs : Lfts 2) (t : RefT (List ℕ)) (n : ℕ) (refs : RefT (List ℕ)) (ws t₀ : List ℕ) (us : List Ty)
     (table : now t ≡ tableAfter ws t₀) (names : Names ws t₀ n (now refs) us)
   where
+    flatten-typed :
+        (m : layout.Memory) (max : ℕ) (a : Answer (Option Packed)) → max ≤ 16 →
+        a ≡ packedFlattened (flattenAnswer m max (now t) n (now refs)) → a ≡ ok (packedFlat (atMost max (flatTypes m us)))
+    unfolding flattenAnswer then
+    flatten-typed m max a fits h =
+        h
+        ∙ rw (table, le-ltb 16 max fits)
+        (ap packedFlattened (ask-built (λ is′. ok (atMost max (flatAll m is′))) names) ∙ rw (flats-typed m us))
+
     pub flattened-of :
         (m : Memory) (max : ℕ) (r : flattened.Flattened) → max ≤ 16 →
         flatten-types.Post κs (m, (max, (t, (n, (refs, tt))))) r (m, (max, (t, (n, (refs, tt))))) →
         means.flattenedMeans r ≡ ok (packedFlat (atMost max (flatTypes (memoryOf m) us)))
-    unfolding flattenAnswer then
-    flattened-of m max r fits h =
-        h
-        ∙ rw (table, le-ltb 16 max fits)
-        (ap packedFlattened (ask-built (λ is′. ok (atMost max (flatAll (memoryOf m) is′))) names) ∙ rw (flats-typed (memoryOf m) us))
+    flattened-of m max r fits h = flatten-typed (memoryOf m) max (means.flattenedMeans r) fits h
+
+    pub lowered-of :
+        (s : declared.Side) (r : flattened.Flattened) →
+        flatten-lowering-types.Post κs (s, (t, (n, (refs, tt)))) r (s, (t, (n, (refs, tt)))) →
+        means.flattenedMeans r ≡ ok (packedFlat (atMost (loweringMax (s .«async_»)) (flatTypes (memoryOf (s .memory)) us)))
+    lowered-of s r h =
+        flatten-typed (memoryOf (s .memory)) (loweringMax (s .«async_»)) (means.flattenedMeans r)
+        (maximum-small (s .«async_») 0 1 (omega arith) (omega arith)) h
+
+    pub lifted-of :
+        (s : declared.Side) (r : flattened.Flattened) →
+        flatten-lifting-types.Post κs (s, (t, (n, (refs, tt)))) r (s, (t, (n, (refs, tt)))) →
+        means.flattenedMeans r ≡ ok (packedFlat (atMost (liftingMax (s .«async_»)) (flatTypes (memoryOf (s .memory)) us)))
+    lifted-of s r h =
+        flatten-typed (memoryOf (s .memory)) (liftingMax (s .«async_»)) (means.flattenedMeans r)
+        (maximum-small (s .«async_») 16 1 (omega arith) (omega arith)) h
 
     pub borrow-of :
         (r : BorrowAnswer) → contains-borrow-resource.Post κs (t, (n, (refs, tt))) r (t, (n, (refs, tt))) →
-        means.borrowMeans r ≡ ok (borrowTypes us)
+        means.borrowMeans r ≡ ok (reachTypes us .borrow)
     unfolding borrowAnswer
-    borrow-of r h = h ∙ rw table (ask-built (λ is′. ok (someBorrow is′)) names ∙ rw (borrows-typed us))
+    borrow-of r h = h ∙ rw table (ask-built (λ is′. ok (reachAll is′ .borrow)) names ∙ rw (reaches-typed us))
 
 -- Two lists: 01's two signatures, of types
 
 abbrev pub startTypes : Side → List Ty → Side → List Ty → Signature
-startTypes lower us lift us′ =
-    record {
-      params = orPointer (lower .memory) (atMost (paramsMax (lower .async)) (flatTypes (lower .memory) us));
-      results = orPointer (lift .memory) (atMost 16 (flatTypes (lift .memory) us′));
-    }
+startTypes lower us lift us′ = startOf lower (flatTypes (lower .memory) us) lift (flatTypes (lift .memory) us′)
 
--- whether lower's results go behind a pointer
-abbrev pub behindTypes : Bool → List Ty → Flattened → Bool
-behindTypes async us f = behindPointer async (map infoOf us) f
-
-abbrev pub returnTypes : Side → List Ty → Side → List Ty → Signature
-returnTypes lift us lower us′ =
-    returned (lift .memory) (behindTypes (lower .async) us′ (atMost 1 (flatTypes (lower .memory) us′)))
-    (orPointer (lift .memory) (atMost (liftingMax (lift .async)) (flatTypes (lift .memory) us)))
-    (listOrNone (atMost 1 (flatTypes (lower .memory) us′)))
-
-start-typed : (lower lift : Side) (us us′ : List Ty) → startOf lower (map infoOf us) lift (map infoOf us′) ≡ startTypes lower us lift us′
-unfolding startOf
-start-typed lower lift us us′ = rw (flats-typed (lower .memory) us, flats-typed (lift .memory) us′)
-
-return-typed : (lift lower : Side) (us us′ : List Ty) → returnOf lift (map infoOf us) lower (map infoOf us′) ≡ returnTypes lift us lower us′
-unfolding returnOf
-return-typed lift lower us us′ = rw (flats-typed (lift .memory) us, flats-typed (lower .memory) us′)
+-- lower's references are as many as its types
+abbrev pub returnTypes : Side → List Ty → Side → List Ty → Bool → Signature
+returnTypes lift us lower us′ empty = returnOf lift (flatTypes (lift .memory) us) lower (flatTypes (lower .memory) us′) empty
 
 module _ (κs : Lfts 3) (t : RefT (List ℕ)) (n : ℕ) (a : declared.Side) (vs : RefT (List ℕ)) (b : declared.Side) (refs : RefT (List ℕ)) (ws t₀ : List ℕ) (us us′ : List Ty)
     (table : now t ≡ tableAfter ws t₀) (first : Names ws t₀ n (now vs) us) (second : Names ws t₀ n (now refs) us′)
@@ -98,20 +92,20 @@ module _ (κs : Lfts 3) (t : RefT (List ℕ)) (n : ℕ) (a : declared.Side) (vs 
   where
     pub start-of :
         async-start-signature.Post κs (t, (n, (a, (vs, (b, (refs, tt)))))) r (t, (n, (a, (vs, (b, (refs, tt)))))) →
-        means.answerMeans r ≡ ok (packedSignature (startTypes (sideMeans a) us (sideMeans b) us′))
+        means.signatureAnswerMeans r ≡ ok (packedSignature (startTypes (sideMeans a) us (sideMeans b) us′))
     unfolding asyncStartAnswer then
     start-of h =
         h
         ∙ rw table
-        (ap packedAnswer (askTwo-built (λ is′ js. ok (startOf (sideMeans a) is′ (sideMeans b) js)) first second)
-        ∙ rw (start-typed (sideMeans a) (sideMeans b) us us′))
+        (ap packedAnswer (askTwo-built (λ is′ js. ok (startOf (sideMeans a) (flatAll (sideMeans a .memory) is′) (sideMeans b) (flatAll (sideMeans b .memory) js))) first second)
+        ∙ rw (flats-typed (sideMeans a .memory) us, flats-typed (sideMeans b .memory) us′))
 
     pub return-of :
         async-return-signature.Post κs (t, (n, (a, (vs, (b, (refs, tt)))))) r (t, (n, (a, (vs, (b, (refs, tt)))))) →
-        means.answerMeans r ≡ ok (packedSignature (returnTypes (sideMeans a) us (sideMeans b) us′))
+        means.signatureAnswerMeans r ≡ ok (packedSignature (returnTypes (sideMeans a) us (sideMeans b) us′ (eqb (length (now refs)) 0)))
     unfolding asyncReturnAnswer then
     return-of h =
         h
         ∙ rw table
-        (ap packedAnswer (askTwo-built (λ is′ js. ok (returnOf (sideMeans a) is′ (sideMeans b) js)) first second)
-        ∙ rw (return-typed (sideMeans a) (sideMeans b) us us′))
+        (ap packedAnswer (askTwo-built (λ is′ js. ok (returnOf (sideMeans a) (flatAll (sideMeans a .memory) is′) (sideMeans b) (flatAll (sideMeans b .memory) js) (eqb (length (now refs)) 0))) first second)
+        ∙ rw (flats-typed (sideMeans a .memory) us, flats-typed (sideMeans b .memory) us′))

@@ -10,9 +10,9 @@ use Rattle.canon.specs.Answer.{Answer, ok, refused}
 use Rattle.canon.specs.Pack.{Packed}
 use Rattle.types.specs.declared.refusal.Refusal.{Refusal}
 use Rattle.flat_types.specs.declared.list.FlatList.{FlatList}
-use Rattle.flat_types.specs.declared.memory.Memory.{Memory}
+use Rattle.types.specs.declared.memory.Memory.{Memory}
 use Rattle.types.proofs.Told.{told, refusalOf, refusal-back}
-use Rattle.signature.specs.Means.{flattenedMeans, borrowMeans, answerMeans}
+use Rattle.signature.specs.Means.{flattenedMeans, borrowMeans, signatureAnswerMeans}
 use Rattle.signature.specs.Packs.{PackedSignature}
 use Rattle.signature.specs.declared.flatten.Side.{Side}
 use Rattle.signature.specs.declared.flatten.Flattened.{Flattened}
@@ -55,7 +55,7 @@ answerOf : Answer PackedSignature → SignatureAnswer
 answerOf (ok s) = answer.Signature (record { params = listOf (s .params); results = listOf (s .results) })
 answerOf (refused x p) = answer.Refused (refusalOf x) (record { 0 = p })
 
-answer-back : (r : SignatureAnswer) → answerOf (answerMeans r) ≡ r
+answer-back : (r : SignatureAnswer) → answerOf (signatureAnswerMeans r) ≡ r
 unfolding answerOf listOf
 answer-back (answer.Signature s) = refl
 answer-back (answer.Refused x p) = ap (λ (y : Refusal). answer.Refused y p) (refusal-back x)
@@ -88,10 +88,10 @@ pub async-start-signature-one :
     (κs : Lfts 3) (t : RefT (List ℕ)) (n : ℕ) (a : Side) (vs : RefT (List ℕ)) (b : Side) (ws : RefT (List ℕ)) (r q : SignatureAnswer) →
     async-start-signature.Post κs (t, (n, (a, (vs, (b, (ws, tt)))))) r (t, (n, (a, (vs, (b, (ws, tt)))))) →
     async-start-signature.Post κs (t, (n, (a, (vs, (b, (ws, tt)))))) q (t, (n, (a, (vs, (b, (ws, tt)))))) → r ≡ q
-async-start-signature-one κs t n a vs b ws r q g h = told answerMeans answerOf answer-back r q (g ∙ sym h)
+async-start-signature-one κs t n a vs b ws r q g h = told signatureAnswerMeans answerOf answer-back r q (g ∙ sym h)
 
 pub async-return-signature-one :
     (κs : Lfts 3) (t : RefT (List ℕ)) (n : ℕ) (a : Side) (vs : RefT (List ℕ)) (b : Side) (ws : RefT (List ℕ)) (r q : SignatureAnswer) →
     async-return-signature.Post κs (t, (n, (a, (vs, (b, (ws, tt)))))) r (t, (n, (a, (vs, (b, (ws, tt)))))) →
     async-return-signature.Post κs (t, (n, (a, (vs, (b, (ws, tt)))))) q (t, (n, (a, (vs, (b, (ws, tt)))))) → r ≡ q
-async-return-signature-one κs t n a vs b ws r q g h = told answerMeans answerOf answer-back r q (g ∙ sym h)
+async-return-signature-one κs t n a vs b ws r q g h = told signatureAnswerMeans answerOf answer-back r q (g ∙ sym h)

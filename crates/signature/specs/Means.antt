@@ -4,8 +4,8 @@ use mathlib.Core.Option.{Option, none, some}
 use Rattle.canon.specs.Answer.{Answer, ok, refused}
 use Rattle.canon.specs.Pack.{Packed}
 use Rattle.canon.specs.Signature as canon
-use Rattle.types.specs.Means.{numberOf}
-use Rattle.flat_types.specs.Lists.{memoryOf, words}
+use Rattle.types.specs.Means.{numberOf, memoryOf}
+use Rattle.flat_types.specs.Lists.{words}
 use Rattle.signature.specs.Packs.{PackedSignature, Lists}
 use Rattle.signature.specs.declared.flatten.Side.{Side}
 use Rattle.signature.specs.declared.flatten.Flattened.{Flattened}
@@ -13,7 +13,7 @@ use Rattle.signature.specs.declared.flatten.Flattened.the-variants as fl
 use Rattle.signature.specs.declared.flatten.BorrowAnswer.{BorrowAnswer}
 use Rattle.signature.specs.declared.flatten.BorrowAnswer.the-variants as borrowed
 use Rattle.signature.specs.declared.lists.TwoLists.{TwoLists}
-use Rattle.signature.specs.declared.lists.TwoLists.the-variants as both
+use Rattle.signature.specs.declared.lists.TwoLists.the-variants as two
 use Rattle.signature.specs.declared.signatures.Signature.{Signature}
 use Rattle.signature.specs.declared.signatures.SignatureAnswer.{SignatureAnswer}
 use Rattle.signature.specs.declared.signatures.SignatureAnswer.the-variants as answer
@@ -30,13 +30,13 @@ abbrev pub borrowMeans : BorrowAnswer → Answer Bool
 borrowMeans (borrowed.Reached b) = ok b
 borrowMeans (borrowed.Refused r p) = refused (numberOf r) (p .0)
 
-abbrev pub bothMeans : TwoLists → Answer Lists
-bothMeans (both.Lists f g) = ok (record { first = words f; second = words g })
-bothMeans (both.Refused r p) = refused (numberOf r) (p .0)
+abbrev pub twoMeans : TwoLists → Answer Lists
+twoMeans (two.Lists f g) = ok (record { first = words f; second = words g })
+twoMeans (two.Refused r p) = refused (numberOf r) (p .0)
 
 abbrev pub signatureMeans : Signature → PackedSignature
 signatureMeans s = record { params = words (s .params); results = words (s .results) }
 
-abbrev pub answerMeans : SignatureAnswer → Answer PackedSignature
-answerMeans (answer.Signature s) = ok (signatureMeans s)
-answerMeans (answer.Refused r p) = refused (numberOf r) (p .0)
+abbrev pub signatureAnswerMeans : SignatureAnswer → Answer PackedSignature
+signatureAnswerMeans (answer.Signature s) = ok (signatureMeans s)
+signatureAnswerMeans (answer.Refused r p) = refused (numberOf r) (p .0)

@@ -1,18 +1,19 @@
 -- canon's answers with each list as a count and packed types. 01: "`Vec<ValType>` becomes a count and packed types, at most 17".
-use mathlib.Core.Bool.{Bool, true, false, cond, not}
-use mathlib.Core.List.{List, [], _∷_}
+use mathlib.Core.Path.{_≡_}
+use mathlib.Core.Bool.{cond}
+use mathlib.Core.List.{List}
 use mathlib.Core.Option.{Option, none, some}
 use Prim.Native.Nat.{ℕ}
-use lib.Dec.{ltb}
 use lib.ListN.{length}
-use Rattle.canon.specs.Answer.{Answer, ok, then}
+use Rattle.canon.specs.Answer.{Answer, ok, then, tooLong, badCount, badRow}
 use Rattle.canon.specs.Layout.{Memory}
-use Rattle.canon.specs.Flat.{Core}
 use Rattle.canon.specs.Pack.{Packed, pack}
 use Rattle.canon.specs.Row.{Info}
-use Rattle.canon.specs.Question.{askTwo}
+use Rattle.canon.specs.Question.{tooMany, noTable, askTwo}
 use Rattle.canon.specs.Signature.{Flattened, listed, inMemory, flatAll, Signature}
-use Rattle.flat_types.specs.Lists.{packed}
+use Rattle.canon.specs.Types.{Core}
+use Rattle.flat_types.specs.Lists.{packed, words, flat}
+use Rattle.flat_types.specs.declared.list.FlatList.{FlatList}
 
 abbrev pub packedList : List Core → Packed
 packedList l = record { number = length l; types = pack l }
@@ -48,9 +49,10 @@ lists a is′ b js = record { first = packed (flatAll a is′); second = packed 
 abbrev pub bothLists : List ℕ → ℕ → Memory → List ℕ → Memory → List ℕ → Answer Lists
 bothLists t n a vs b ws = askTwo t n vs ws (λ is′ js. ok (lists a is′ b js))
 
-abbrev pub isEmpty : List Info → Bool
-isEmpty [] = true
-isEmpty (i ∷ is′) = false
+-- a list's words are those that are written for what it stands for
+abbrev pub Whole : FlatList → Type 0
+Whole f = words f ≡ packed (flat f)
 
-unfoldable pub behind : Bool → Bool → ℕ → Bool
-behind async empty count = cond async (not empty) (ltb 1 count)
+-- a maximum above 16: "TooLong, n, maximum"
+unfoldable pub badMaximum : List ℕ → ℕ → List ℕ → ℕ
+badMaximum t n ws = cond (tooMany ws) tooLong (cond (noTable t n) badRow badCount)

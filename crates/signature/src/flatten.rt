@@ -1,23 +1,21 @@
 // The questions on one list.
 ghost use mathlib.Core.Path.{_≡_};
-ghost use mathlib.Core.List.{List};
-ghost use mathlib.Core.Option.{Option};
 ghost use Prim.Native.Nat.{_≤_};
 ghost use Rattle.canon.specs.Answer.{ok};
-ghost use Rattle.canon.specs.Flat.{Core};
 ghost use Rattle.canon.specs.Question.{borrowAnswer};
 ghost use Rattle.canon.specs.Signature.{atMost, flattenAnswer, loweringMax, liftingMax, loweringAnswer, liftingAnswer};
-ghost use Rattle.flat_types.specs.Lists.{memoryOf, packed, words};
+ghost use Rattle.types.specs.Means.{numberOf, memoryOf};
+ghost use Rattle.flat_types.specs.Lists.{flat};
 ghost use Rattle.signature.specs.Means.{sideMeans, flattenedMeans, borrowMeans};
-ghost use Rattle.signature.specs.Packs.{packedFlat, packedFlattened};
+ghost use Rattle.signature.specs.Packs.{packedFlat, packedFlattened, Whole, badMaximum};
 use flat_types::FlatList;
-use flat_types::MAX_FLAT_TYPES;
-use flat_types::Memory;
 use questions::Gathered;
 use questions::gather;
 use questions::no_table;
 use questions::too_many;
 use table::MemberPosition;
+use types::MAX_FLAT_TYPES;
+use types::Memory;
 use types::Refusal;
 
 // The source's maxima.
@@ -25,7 +23,7 @@ pub const MAX_FLAT_PARAMS: u32 = 16;
 
 pub const MAX_FLAT_ASYNC_PARAMS: u32 = 4;
 
-const MAX_FLAT_RESULTS: u32 = 1;
+pub const MAX_FLAT_RESULTS: u32 = 1;
 
 // How one side of a call is compiled.
 pub struct Side {
@@ -45,15 +43,28 @@ pub enum BorrowAnswer {
 }
 
 // A list of at most so many types; a longer one lies in memory.
-fn at_most(max: u32, flat: FlatList) -> Flattened
-    requires { ⌜ max ≤ 16 ⌝ }
-    ensures { λ r. ⌜ ((o : Option (List Core)) → words flat ≡ packed o → flattenedMeans r ≡ ok (packedFlat (atMost max o))) ⌝ }
+fn at_most(max: u32, list: FlatList) -> Flattened
+    requires { ⌜ (max ≤ 16) × Whole list ⌝ }
+    ensures { λ r. ⌜ flattenedMeans r ≡ ok (packedFlat (atMost max (flat list))) ⌝ }
 {
-    if flat.count <= max {
-        Flattened::List(flat)
+    if list.count <= max {
+        Flattened::List(list)
     } else {
         Flattened::Memory
     }
+}
+
+// Why a question with a bad maximum is refused: by the tests before the maximum's, or by its own.
+fn bad_maximum(table: &[u32], n: u32, references: &[u32]) -> Refusal
+    ensures { λ r. ⌜ numberOf r ≡ badMaximum (now (table .entry)) n (now (references .entry)) ⌝ }
+{
+    if too_many(references) {
+        return Refusal::TooLong;
+    }
+    if no_table(table, n) {
+        return Refusal::BadRow;
+    }
+    Refusal::BadCount
 }
 
 pub fn flatten_types(
@@ -65,16 +76,10 @@ pub fn flatten_types(
 ) -> Flattened
     ensures { λ r. ⌜ flattenedMeans r ≡ packedFlattened (flattenAnswer (memoryOf memory) max (now (table .entry)) n (now (references .entry))) ⌝ }
 {
-    if too_many(references) {
-        return Flattened::Refused(Refusal::TooLong, MemberPosition(0));
-    }
-    if no_table(table, n) {
-        return Flattened::Refused(Refusal::BadRow, MemberPosition(0));
-    }
     if max > MAX_FLAT_TYPES {
-        return Flattened::Refused(Refusal::BadCount, MemberPosition(0));
+        return Flattened::Refused(bad_maximum(table, n, references), MemberPosition(0));
     }
-    match gather(memory, table, n, references, 0) {
+    match gather(memory, table, n, references) {
         Gathered::All(all) => at_most(max, all.flat),
         Gathered::Refused(why, position) => Flattened::Refused(why, position),
     }
@@ -90,7 +95,7 @@ pub(crate) fn lifting_max(async_: bool) -> u32
     ensures { λ r. ⌜ r ≡ liftingMax «async_» ⌝ }
 {
     if async_ {
-        MAX_FLAT_TYPES
+        MAX_FLAT_PARAMS
     } else {
         MAX_FLAT_RESULTS
     }
@@ -113,8 +118,11 @@ pub fn flatten_lifting_types(side: Side, table: &[u32], n: u32, references: &[u3
 pub fn contains_borrow_resource(table: &[u32], n: u32, references: &[u32]) -> BorrowAnswer
     ensures { λ r. ⌜ borrowMeans r ≡ borrowAnswer (now (table .entry)) n (now (references .entry)) ⌝ }
 {
-    match gather(Memory::Memory32, table, n, references, 0) {
-        Gathered::All(all) => BorrowAnswer::Reached(all.borrow),
+    match gather(Memory::Memory32, table, n, references) {
+        Gathered::All(all) => {
+            let reach = all.reach;
+            BorrowAnswer::Reached(reach.is_borrow())
+        }
         Gathered::Refused(why, position) => BorrowAnswer::Refused(why, position),
     }
 }

@@ -1,17 +1,17 @@
 // The signatures of a call's start and of its return.
 ghost use mathlib.Core.Path.{_≡_};
-ghost use mathlib.Core.List.{List};
-ghost use Rattle.canon.specs.Row.{Info};
-ghost use Rattle.canon.specs.Signature.{flatAll, paramsMax, returnOf, asyncStartAnswer, asyncReturnAnswer};
-ghost use Rattle.flat_types.specs.Lists.{memoryOf, packed, words};
-ghost use Rattle.signature.specs.Means.{sideMeans, signatureMeans, answerMeans};
-ghost use Rattle.signature.specs.Packs.{isEmpty, behind, packedSignature, packedAnswer};
+ghost use Rattle.canon.specs.Signature.{atMost, paramsMax, behindPointer, returnOf, asyncStartAnswer, asyncReturnAnswer};
+ghost use Rattle.flat_types.specs.Lists.{flat};
+ghost use Rattle.signature.specs.Means.{sideMeans, signatureMeans, signatureAnswerMeans};
+ghost use Rattle.signature.specs.Packs.{packedSignature, packedAnswer, Whole};
 use crate::flatten::MAX_FLAT_ASYNC_PARAMS;
 use crate::flatten::MAX_FLAT_PARAMS;
+use crate::flatten::MAX_FLAT_RESULTS;
 use crate::flatten::Side;
 use crate::flatten::lifting_max;
 use crate::lists::TwoLists;
-use crate::lists::both;
+use crate::lists::gather_two;
+use crate::lists::or_nothing;
 use crate::lists::or_pointer;
 use flat_types::FlatList;
 use table::MemberPosition;
@@ -45,11 +45,11 @@ pub fn async_start_signature(
     lift: Side,
     lifted: &[u32],
 ) -> SignatureAnswer
-    ensures { λ r. ⌜ answerMeans r ≡ packedAnswer (asyncStartAnswer (now (table .entry)) n (sideMeans lower) (now (lowered .entry)) (sideMeans lift) (now (lifted .entry))) ⌝ }
+    ensures { λ r. ⌜ signatureAnswerMeans r ≡ packedAnswer (asyncStartAnswer (now (table .entry)) n (sideMeans lower) (now (lowered .entry)) (sideMeans lift) (now (lifted .entry))) ⌝ }
 {
     let lower_memory = lower.memory;
     let lift_memory = lift.memory;
-    match both(table, n, lower_memory, lowered, lift_memory, lifted) {
+    match gather_two(table, n, lower_memory, lowered, lift_memory, lifted) {
         TwoLists::Lists(params, results) => SignatureAnswer::Signature(Signature {
             params: or_pointer(lower_memory, params_max(lower.async_), params),
             results: or_pointer(lift_memory, MAX_FLAT_PARAMS, results),
@@ -59,22 +59,25 @@ pub fn async_start_signature(
 }
 
 // Whether lower's results go behind a pointer: an async lower takes none on the stack.
-fn behind_pointer(async_: bool, empty: bool, count: u32) -> bool
-    ensures { λ r. ⌜ r ≡ behind «async_» empty count ⌝ }
+fn behind_pointer(async_: bool, empty: bool, lowered: FlatList) -> bool
+    requires { ⌜ Whole lowered ⌝ }
+    ensures { λ r. ⌜ r ≡ behindPointer «async_» empty (atMost 1 (flat lowered)) ⌝ }
 {
     if async_ {
         if empty { false } else { true }
     } else {
-        count > 1
+        lowered.count > MAX_FLAT_RESULTS
     }
 }
 
+// `empty` is whether lower has no references: a record of nothing is one.
 fn return_of(lift: Side, lifted: FlatList, lower: Side, lowered: FlatList, empty: bool) -> Signature
-    ensures { λ r. ⌜ ((is′ js : List Info) → words lifted ≡ packed (flatAll (memoryOf (lift .memory)) is′) → words lowered ≡ packed (flatAll (memoryOf (lower .memory)) js) → empty ≡ isEmpty js → signatureMeans r ≡ packedSignature (returnOf (sideMeans lift) is′ (sideMeans lower) js)) ⌝ }
+    requires { ⌜ Whole lifted × Whole lowered ⌝ }
+    ensures { λ r. ⌜ signatureMeans r ≡ packedSignature (returnOf (sideMeans lift) (flat lifted) (sideMeans lower) (flat lowered) empty) ⌝ }
 {
     let memory = lift.memory;
     let params = or_pointer(memory, lifting_max(lift.async_), lifted);
-    if behind_pointer(lower.async_, empty, lowered.count) {
+    if behind_pointer(lower.async_, empty, lowered) {
         // The source pushes lift's pointer here, not lower's.
         Signature {
             params: params.with_pointer(memory),
@@ -83,7 +86,7 @@ fn return_of(lift: Side, lifted: FlatList, lower: Side, lowered: FlatList, empty
     } else {
         Signature {
             params,
-            results: lowered,
+            results: or_nothing(lowered),
         }
     }
 }
@@ -96,11 +99,11 @@ pub fn async_return_signature(
     lower: Side,
     lowered: &[u32],
 ) -> SignatureAnswer
-    ensures { λ r. ⌜ answerMeans r ≡ packedAnswer (asyncReturnAnswer (now (table .entry)) n (sideMeans lift) (now (lifted .entry)) (sideMeans lower) (now (lowered .entry))) ⌝ }
+    ensures { λ r. ⌜ signatureAnswerMeans r ≡ packedAnswer (asyncReturnAnswer (now (table .entry)) n (sideMeans lift) (now (lifted .entry)) (sideMeans lower) (now (lowered .entry))) ⌝ }
 {
     let lift_memory = lift.memory;
     let lower_memory = lower.memory;
-    match both(table, n, lift_memory, lifted, lower_memory, lowered) {
+    match gather_two(table, n, lift_memory, lifted, lower_memory, lowered) {
         TwoLists::Lists(params, results) => {
             let empty = lowered.len() == 0;
             SignatureAnswer::Signature(return_of(lift, params, lower, results, empty))

@@ -1,4 +1,4 @@
--- `main` is safe and ends; what is printed for which bytes is the promise of `text::report`.
+-- `main` is safe and ends; what is printed for which bytes is the promise of `listing::report`.
 use mathlib.Core.Path.{sym}
 use lib.Seq.{length-take-le}
 use borrow.Author.Needs.{needs}

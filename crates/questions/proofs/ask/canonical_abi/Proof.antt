@@ -2,7 +2,7 @@
 use mathlib.Core.Path.{sym, ap, _∙_}
 use Rattle.canon.specs.Answer.{atPosition}
 use Rattle.questions.specs.Means.{readingMeans}
-use Rattle.questions.specs.declared.read.Reading.{Reading}
+use Rattle.questions.specs.declared.ask.Reading.{Reading}
 use Rattle.questions.proofs.WellFormed.{type-counted, counted-byte}
 use borrow.Author.Needs.{needs}
 use Rattle.questions.proofs.ask.canonical_abi.Statement.{statement}
@@ -16,8 +16,7 @@ enum-known-info c = search needs
 
 type-info-requires : tie.Need-type-info-requires
 unfolding atPosition
-type-info-requires c κs =
-    counted-byte _
+type-info-requires c κs = counted-byte _
     (type-counted _ _ _ _
     (sym (c .before .before .before .read-one .ensures) ∙ ap (λ (r : Reading). atPosition 0 (readingMeans r)) (c .before .info .given .1)))
 

@@ -11,15 +11,15 @@ read-one-requires c κs = search needs
 enum-known-info : tie.Need-enum-known-info
 enum-known-info c = search needs
 
-layout-in-requires : tie.Need-layout-in-requires
-layout-in-requires c κs = search needs
+in-memory-requires : tie.Need-in-memory-requires
+in-memory-requires c κs = search needs
 
 enum-known-why : tie.Need-enum-known-why
 enum-known-why c = search needs
 
 returns : tie.Need-returns
 unfolding sizeAlignAnswer then atPosition
-returns c = simp (← c .before .before .before .before .read-one .ensures, c .before .before .info .given .1, c .layout-in .ensures)
+returns c = simp (← c .before .before .before .before .before .read-one .ensures, c .before .before .before .info .given .1, c .in-memory .ensures)
 
 returns-2 : tie.Need-returns-2
 unfolding sizeAlignAnswer then atPosition
@@ -31,7 +31,7 @@ size-align-spec =
     (tie.spec
     read-one-requires
     enum-known-info
-    layout-in-requires
+    in-memory-requires
     enum-known-why
     returns
     returns-2)

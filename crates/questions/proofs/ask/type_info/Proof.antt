@@ -1,4 +1,5 @@
 -- The count alone changes its form.
+use Rattle.canon.specs.Reach.{wordReach}
 use borrow.Author.Needs.{needs}
 use Rattle.questions.proofs.ask.type_info.Statement.{statement}
 use Rattle.questions.proofs.ask.type_info.Tie as tie
@@ -6,8 +7,20 @@ use Rattle.questions.proofs.ask.type_info.Tie as tie
 flat-count-requires : tie.Need-flat-count-requires
 flat-count-requires c κs = search needs
 
+word32-requires : tie.Need-word32-requires
+word32-requires c κs = search needs
+
+word64-requires : tie.Need-word64-requires
+word64-requires c κs = search needs
+
+is-borrow-requires : tie.Need-is-borrow-requires
+is-borrow-requires c κs = search needs
+
 returns : tie.Need-returns
-returns c = simp (c .flat-count .ensures)
+unfolding wordReach
+returns c = simp (c .before .before .before .flat-count .ensures, c .before .before .word32 .ensures, c .before .word64 .ensures, c .is-borrow .ensures)
 
 pub type-info-spec : {M : Type 1} → statement M
-type-info-spec = tie.close (tie.spec flat-count-requires returns)
+type-info-spec =
+    tie.close
+    (tie.spec flat-count-requires word32-requires word64-requires is-borrow-requires returns)

@@ -19,16 +19,14 @@ no-table-requires c κs = search needs
 
 returns-2 : tie.Need-returns-2
 unfolding gatherAnswer unless
-returns-2 c =
-    rw (← c .before .before .before .too-many .ensures, c .before .before .if1 .left, ← c .before .no-table .ensures, c .if2 .taken)
+returns-2 c = rw (← c .before .before .before .too-many .ensures, c .before .before .if1 .left, ← c .before .no-table .ensures, c .if2 .taken)
 
 gather-all-requires : tie.Need-gather-all-requires
 gather-all-requires c κs = (sym (c .before .no-table .ensures) ∙ c .if2 .left, ltb-false _ _ (sym (c .before .before .before .too-many .ensures) ∙ c .before .before .if1 .left))
 
 returns-3 : tie.Need-returns-3
 unfolding gatherAnswer unless
-returns-3 c =
-    rw (← c .before .before .before .before .too-many .ensures, c .before .before .before .if1 .left, ← c .before .before .no-table .ensures, c .before .if2 .left)
+returns-3 c = rw (← c .before .before .before .before .too-many .ensures, c .before .before .before .if1 .left, ← c .before .before .no-table .ensures, c .before .if2 .left)
     (c .gather-all .ensures)
 
 pub gather-spec : {M : Type 1} → statement M

@@ -1,51 +1,50 @@
 -- The loop's invariant: these infos have been read, and what was gathered is what they give together (`goes-on`, `with-more`).
-use mathlib.Core.Path.{_≡_, refl, sym, ap, _∙_}
+use mathlib.Core.Path.{_≡_, refl, sym, ap, ap₂, _∙_}
 use mathlib.Core.List.{List, [], _∷_, _++_}
 use Prim.Native.Nat.{_-_, _≤_}
 use denote.Ref.{now}
-use lib.ListN.{length}
-use borrow.Author.Needs.{needs}
+use lib.ListN.{length, getD}
 use Rattle.canon.specs.Answer.{ok, then}
-use Rattle.canon.specs.Row.{Info}
 use Rattle.canon.specs.Pack.{pack}
-use Rattle.canon.specs.Question.{read, someBorrow}
+use Rattle.canon.specs.Reach.{reachWord}
+use Rattle.canon.specs.Row.{Info}
+use Rattle.canon.specs.Question.{read, reachAll}
 use Rattle.canon.specs.Signature.{flatAll}
-use Rattle.types.specs.Means.{numberOf}
-use Rattle.flat_types.specs.Lists.{memoryOf, packedTo}
-use Rattle.table.specs.Means.{infoMeans}
-use Rattle.questions.specs.Means.{readingMeans, gatheringMeans}
-use Rattle.questions.specs.Gathers.{Together, together}
-use Rattle.questions.specs.Steps.{withInfo}
-use Rattle.questions.proofs.References.{Read, begins, goes-on, stops, ends}
-use Rattle.questions.proofs.WellFormed.{read-counted, with-more}
+use Rattle.types.specs.Means.{memoryOf, numberOf}
+use Rattle.flat_types.specs.Lists.{packedTo}
+use Rattle.questions.specs.Gathers.{together}
+use Rattle.questions.specs.Means.{nextMeans, gatheringMeans}
+use Rattle.questions.specs.Steps.{alone, withMore}
+use Rattle.questions.proofs.References.{part-is, part-no, Read, begins, goes-on, stops, ends}
+use Rattle.questions.proofs.WellFormed.{with-more}
+use borrow.Author.Needs.{needs}
 use Rattle.questions.proofs.list.gather_all.Statement.{statement}
 use Rattle.questions.proofs.list.gather_all.Tie as tie
 
 abbrev Inv-loop : tie.InvT-loop
-Inv-loop memory table n references first all₀ k₀ all k =
+Inv-loop memory table n references all₀ k₀ all k =
     (k ≤ length references)
-    × ((done : List Info) × Read (read table n) first references k done × (gatheringMeans all ≡ together (memoryOf memory) done))
+    × ((done : List Info) × Read (read table n) references k done × (gatheringMeans all ≡ together (memoryOf memory) done))
 
 abbrev μ-loop : tie.MeasureT-loop
-μ-loop memory table n references first all₀ k₀ all k = length references - k
+μ-loop memory table n references all₀ k₀ all k = length references - k
 
 loop-holds : tie.Need-loop-holds Inv-loop μ-loop
-unfolding packedTo flatAll someBorrow pack
-loop-holds c =
-    let a = c .before .before .args in
-    (search needs, ([], begins (read (now (a .table)) (a .n)) (a .first) (now (a .references)), refl))
+unfolding packedTo flatAll reachAll reachWord pack
+loop-holds c = let a = c .before .before .args in
+    (search needs, ([], begins (read (now (a .table)) (a .n)) (now (a .references)), refl))
 
-mul-read : tie.Need-mul-read Inv-loop μ-loop
-mul-read c = search needs
+mul-read-next : tie.Need-mul-read-next Inv-loop μ-loop
+mul-read-next c = search needs
 
-shared-slice-read-read : tie.Need-shared-slice-read-read Inv-loop μ-loop
-shared-slice-read-read c = search needs
+shared-slice-read-read-next : tie.Need-shared-slice-read-read-next Inv-loop μ-loop
+shared-slice-read-read-next c = search needs
 
-read-requires : tie.Need-read-requires Inv-loop μ-loop
-read-requires c κs = search needs
+read-next-requires : tie.Need-read-next-requires Inv-loop μ-loop
+read-next-requires c κs = search needs
 
-enum-known-info : tie.Need-enum-known-info Inv-loop μ-loop
-enum-known-info c = search needs
+enum-known-next : tie.Need-enum-known-next Inv-loop μ-loop
+enum-known-next c = search needs
 
 with-requires : tie.Need-with-requires Inv-loop μ-loop
 with-requires c κs = search needs
@@ -53,21 +52,17 @@ with-requires c κs = search needs
 enum-known-why : tie.Need-enum-known-why Inv-loop μ-loop
 enum-known-why c = search needs
 
-add-position : tie.Need-add-position Inv-loop μ-loop
-add-position c = search needs
-
-cast-t18 : tie.Need-cast-t18 Inv-loop μ-loop
-cast-t18 c = search needs
+cast-t16 : tie.Need-cast-t16 Inv-loop μ-loop
+cast-t16 c = search needs
 
 returns : tie.Need-returns Inv-loop μ-loop
 unfolding then
-returns c =
-    let a = c .before .before .before .before .before .before .before .before .before .args in
+returns c = let a = c .before .before .before .before .before .before .before .before .before .args in
     let l = c .before .before .before .before .before .before .loop in
     let w = c .before .why .given in
-    rw
-    (stops (read (now (a .table)) (a .n)) (a .first) (now (a .references)) (l .k) (l .inv .1 .0) (numberOf (w .0 .0)) (l .inv .1 .1)
-    (sym (c .before .before .before .read .ensures) ∙ ap readingMeans (w .1)) (c .before .before .before .before .before .loop-test .taken))
+    let look = read (now (a .table)) (a .n) in
+    rw (stops look (now (a .references)) (l .k) (l .inv .1 .0) (numberOf (w .0 .0)) (l .inv .1 .1)
+    (part-no (alone (memoryOf (a .memory))) (look (getD (now (a .references)) (l .k) 0)) (numberOf (w .0 .0)) (sym (ap nextMeans (w .1)) ∙ c .before .before .before .read-next .ensures)) (c .before .before .before .before .before .loop-test .taken))
 
 add-k : tie.Need-add-k Inv-loop μ-loop
 add-k c = search needs
@@ -76,29 +71,26 @@ loop-less : tie.Need-loop-less Inv-loop μ-loop
 loop-less c = search needs
 
 loop-again : tie.Need-loop-again Inv-loop μ-loop
-loop-again c =
-    let a = c .before .before .before .before .before .before .before .before .before .before .args in
+loop-again c = let a = c .before .before .before .before .before .before .before .before .before .before .args in
     let l = c .before .before .before .before .before .before .before .loop in
+    let g = c .before .before .next .given in
+    let m = memoryOf (a .memory) in
+    let look = read (now (a .table)) (a .n) in
     let done = l .inv .1 .0 in
-    let i = c .before .before .info .given .0 .0 in
-    let e = sym (c .before .before .before .before .read .ensures) ∙ ap readingMeans (c .before .before .info .given .1) in (
+    let r = part-is (alone m) (look (getD (now (a .references)) (l .k) 0)) (gatheringMeans (g .0 .0)) (sym (ap nextMeans (g .1)) ∙ c .before .before .before .before .read-next .ensures) in (
       search needs,
       (
-        done ++ infoMeans i ∷ [],
-        goes-on (read (now (a .table)) (a .n)) (a .first) (now (a .references)) (l .k) done (infoMeans i) (l .inv .1 .1) e (c .before .before .before .before .before .before .loop-test .taken),
-        c .with .ensures
-            ∙ ap (λ (g : Together). withInfo (memoryOf (a .memory)) g i) (l .inv .1 .2)
-            ∙ with-more (memoryOf (a .memory)) done i (read-counted (now (a .table)) (a .n) _ (infoMeans i) e),
+        done ++ r .0 ∷ [],
+        goes-on look (now (a .references)) (l .k) done (r .0) (l .inv .1 .1) (r .1) (c .before .before .before .before .before .before .loop-test .taken),
+        c .with .ensures ∙ ap₂ withMore (l .inv .1 .2) (sym (r .2)) ∙ with-more m done (r .0),
       ),
     )
 
 returns-2 : tie.Need-returns-2 Inv-loop μ-loop
 unfolding then
-returns-2 c =
-    let a = c .before .before .before .before .args in
+returns-2 c = let a = c .before .before .before .before .args in
     let l = c .before .loop in
-    rw (ends (read (now (a .table)) (a .n)) (a .first) (now (a .references)) (l .k) (l .inv .1 .0) (l .inv .1 .1) (c .loop-test .left))
-    (ap ok (l .inv .1 .2))
+    rw (ends (read (now (a .table)) (a .n)) (now (a .references)) (l .k) (l .inv .1 .0) (l .inv .1 .1) (c .loop-test .left)) (ap ok (l .inv .1 .2))
 
 pub gather-all-spec : {M : Type 1} → statement M
 gather-all-spec =
@@ -107,14 +99,13 @@ gather-all-spec =
     Inv-loop
     μ-loop
     loop-holds
-    mul-read
-    shared-slice-read-read
-    read-requires
-    enum-known-info
+    mul-read-next
+    shared-slice-read-read-next
+    read-next-requires
+    enum-known-next
     with-requires
     enum-known-why
-    add-position
-    cast-t18
+    cast-t16
     returns
     add-k
     loop-less

@@ -1,25 +1,23 @@
--- The loop's invariant: these infos have been read, and the members stand as canon places them (`goes-on`, `filled-more`).
+-- The loop's invariant: these infos have been read, and the members stand as canon places them (`goes-on`, `stands-more`).
 use mathlib.Core.Path.{_≡_, refl, sym, ap, _∙_}
 use mathlib.Core.List.{List, [], _∷_, _++_}
 use Prim.Native.Nat.{_-_, _≤_}
-use native.Mathlib.Nat.{zero-add, le-antisymm}
+use native.Mathlib.Nat.{le-antisymm}
 use native.Mathlib.Omega.{arith}
 use denote.Ref.{now}
-use lib.ListN.{length, take, length-set}
-use borrow.Author.Needs.{needs}
+use lib.ListN.{length, getD, take, length-set}
 use Rattle.canon.specs.Answer.{then}
+use Rattle.canon.specs.Layout.{Layout, starts}
 use Rattle.canon.specs.Row.{Info}
-use Rattle.canon.specs.Layout.{Layout}
 use Rattle.canon.specs.Question.{read, layoutsIn}
-use Rattle.canon.proofs.Asked.{read-aligned}
+use Rattle.canon.proofs.Questions.{read-aligned}
 use Rattle.canon.proofs.Tests.{impossible}
-use Rattle.types.specs.Means.{numberOf}
-use Rattle.flat_types.specs.Lists.{memoryOf}
-use Rattle.table.specs.Means.{infoMeans}
-use Rattle.questions.specs.Means.{readingMeans}
-use Rattle.questions.specs.Steps.{nextPlace}
-use Rattle.questions.proofs.References.{Read, begins, goes-on, stops, ends}
-use Rattle.questions.proofs.Members.{Filled, filled-none, filled-more, finish-is, offsets-are}
+use Rattle.types.specs.Means.{memoryOf, numberOf, layoutMeans}
+use Rattle.questions.specs.Means.{memberMeans}
+use Rattle.questions.specs.Steps.{layoutOf, nextPlace}
+use Rattle.questions.proofs.References.{part-is, part-no, Read, begins, goes-on, stops, ends}
+use Rattle.questions.proofs.Members.{layouts-more, Stands, Staged, nothing-stands, stands-more, staged-more, finish-is, placed-is}
+use borrow.Author.Needs.{needs}
 use Rattle.questions.proofs.placing.fill.Statement.{statement}
 use Rattle.questions.proofs.placing.fill.Tie as tie
 
@@ -27,96 +25,94 @@ abbrev Inv-loop : tie.InvT-loop
 Inv-loop memory table n references stage₀ placed₀ k₀ stage placed k =
     (k ≤ length references)
     × (length stage ≡ length stage₀)
-    × ((done : List Info) × Read (read table n) 0 references k done × Filled (memoryOf memory) done stage placed k)
+    × ((done : List Info)
+    × Read (read table n) references k done
+    × Stands placed (layoutsIn (memoryOf memory) done) k
+    × Staged (take k stage) (layoutsIn (memoryOf memory) done))
 
 abbrev μ-loop : tie.MeasureT-loop
 μ-loop memory table n references stage₀ placed₀ k₀ stage placed k = length references - k
 
-start-requires : tie.Need-start-requires Inv-loop μ-loop
-start-requires c κs = search needs
-
 loop-holds : tie.Need-loop-holds Inv-loop μ-loop
-loop-holds c =
-    let a = c .before .before .before .before .args in
-    (search needs, refl, ([], begins (read (now (a .table)) (a .n)) 0 (now (a .references)), filled-none _ _ _ (c .start .ensures)))
+unfolding starts
+loop-holds c = let a = c .before .before .before .args in
+    (search needs, refl, ([], begins (read (now (a .table)) (a .n)) (now (a .references)), nothing-stands, λ h. refl))
 
-mul-read : tie.Need-mul-read Inv-loop μ-loop
-mul-read c = search needs
+mul-read-member : tie.Need-mul-read-member Inv-loop μ-loop
+mul-read-member c = search needs
 
-shared-slice-read-read : tie.Need-shared-slice-read-read Inv-loop μ-loop
-shared-slice-read-read c = search needs
+shared-slice-read-read-member : tie.Need-shared-slice-read-read-member Inv-loop μ-loop
+shared-slice-read-read-member c = search needs
 
-read-requires : tie.Need-read-requires Inv-loop μ-loop
-read-requires c κs = search needs
+read-member-requires : tie.Need-read-member-requires Inv-loop μ-loop
+read-member-requires c κs = search needs
 
-enum-known-info : tie.Need-enum-known-info Inv-loop μ-loop
-enum-known-info c = search needs
+enum-known-layout : tie.Need-enum-known-layout Inv-loop μ-loop
+enum-known-layout c = search needs
 
-layout-in-requires : tie.Need-layout-in-requires Inv-loop μ-loop
-layout-in-requires c κs = search needs
-
-cast-t16 : tie.Need-cast-t16 Inv-loop μ-loop
-cast-t16 c = search needs
+cast-t17 : tie.Need-cast-t17 Inv-loop μ-loop
+cast-t17 c = search needs
 
 next-requires : tie.Need-next-requires Inv-loop μ-loop
 next-requires c κs = search needs
 
 mul-stage : tie.Need-mul-stage Inv-loop μ-loop
-mul-stage c =
-    let s = c .before .before .before .before .before .before .before .before .before .before .before .before .before in
-    omega (arith, c .before .before .before .before .before .before .before .loop-test .taken, c .before .before .before .before .before .before .before .before .loop .inv .1, s .pre .1, s .pre .2)
+mul-stage c = let s = c .before .before .before .before .before .before .before .before .before .before .before in
+    omega (arith, c .before .before .before .before .before .before .loop-test .taken, c .before .before .before .before .before .before .before .loop .inv .1, s .pre .1, s .pre .2)
 
 slice-write-stage : tie.Need-slice-write-stage Inv-loop μ-loop
-slice-write-stage c =
-    let s = c .before .before .before .before .before .before .before .before .before .before .before .before .before in
-    omega (arith, c .before .before .before .before .before .before .before .loop-test .taken, c .before .before .before .before .before .before .before .before .loop .inv .1, s .pre .1, s .pre .2)
+slice-write-stage c = let s = c .before .before .before .before .before .before .before .before .before .before .before in
+    omega (arith, c .before .before .before .before .before .before .loop-test .taken, c .before .before .before .before .before .before .before .loop .inv .1, s .pre .1, s .pre .2)
 
 enum-known-why : tie.Need-enum-known-why Inv-loop μ-loop
 enum-known-why c = search needs
 
-cast-t20 : tie.Need-cast-t20 Inv-loop μ-loop
-cast-t20 c = search needs
+cast-t21 : tie.Need-cast-t21 Inv-loop μ-loop
+cast-t21 c = search needs
 
 same-length : tie.Need-same-length Inv-loop μ-loop
 same-length c = search needs
 
 returns : tie.Need-returns Inv-loop μ-loop
 unfolding then
-returns c =
-    let a = c .before .before .before .before .before .before .before .before .before .before .before .args in
+returns c = let a = c .before .before .before .before .before .before .before .before .before .before .args in
     let l = c .before .before .before .before .before .before .loop in
     let w = c .before .why .given in
+    let look = read (now (a .table)) (a .n) in
     let e =
-    stops (read (now (a .table)) (a .n)) 0 (now (a .references)) (l .k) (l .inv .2 .0) (numberOf (w .0 .0)) (l .inv .2 .1)
-    (sym (c .before .before .before .read .ensures) ∙ ap readingMeans (w .1)) (c .before .before .before .before .before .loop-test .taken) in
-    (rw (e, zero-add (l .k)), λ p f. impossible (let g = rw e at f in cc))
+    stops look (now (a .references)) (l .k) (l .inv .2 .0) (numberOf (w .0 .0)) (l .inv .2 .1)
+    (part-no (layoutOf (memoryOf (a .memory))) (look (getD (now (a .references)) (l .k) 0)) (numberOf (w .0 .0)) (sym (ap memberMeans (w .1)) ∙ c .before .before .before .read-member .ensures)) (c .before .before .before .before .before .loop-test .taken) in
+    (rw e, λ p f. impossible (let g = rw e at f in cc))
 
 add-k : tie.Need-add-k Inv-loop μ-loop
-add-k c =
-    let s = c .before .before .before .before .before .before .before .before .before .before .before .before .before in
-    omega (arith, c .before .before .before .before .before .before .before .loop-test .taken, c .before .before .before .before .before .before .before .before .loop .inv .1, s .pre .1, s .pre .2)
+add-k c = let s = c .before .before .before .before .before .before .before .before .before .before .before in
+    omega (arith, c .before .before .before .before .before .before .loop-test .taken, c .before .before .before .before .before .before .before .loop .inv .1, s .pre .1, s .pre .2)
 
 loop-less : tie.Need-loop-less Inv-loop μ-loop
 loop-less c = search needs
 
 loop-again : tie.Need-loop-again Inv-loop μ-loop
-loop-again c =
-    let s = c .before .before .before .before .before .before .before .before .before .before .before .before .before in
+loop-again c = let s = c .before .before .before .before .before .before .before .before .before .before .before in
     let a = s .args in
-    let l = c .before .before .before .before .before .before .before .before .loop in
-    let test = c .before .before .before .before .before .before .before .loop-test .taken in
-    let done = l .inv .2 .0 in
+    let l = c .before .before .before .before .before .before .before .loop in
+    let test = c .before .before .before .before .before .before .loop-test .taken in
     let m = memoryOf (a .memory) in
-    let i = c .before .before .before .info .given .0 .0 in
-    let e = sym (c .before .before .before .before .before .read .ensures) ∙ ap readingMeans (c .before .before .before .info .given .1) in (
+    let look = read (now (a .table)) (a .n) in
+    let w = getD (now (a .references)) (l .k) 0 in
+    let done = l .inv .2 .0 in
+    let g = c .before .before .layout .given in
+    let f = layoutMeans (g .0 .0) in
+    let r = part-is (layoutOf m) (look w) f (sym (ap memberMeans (g .1)) ∙ c .before .before .before .before .read-member .ensures) in
+    let q = c .next .ensures ∙ ap (λ (x : Layout). nextPlace (l .placed) x (record { 0 = l .k })) (sym (r .2)) in
+    let al = read-aligned m (now (a .table)) (a .n) w (r .0) (r .1) in (
       search needs,
       simp length-set (l .inv .1),
       (
-        done ++ infoMeans i ∷ [],
-        goes-on (read (now (a .table)) (a .n)) 0 (now (a .references)) (l .k) done (infoMeans i) (l .inv .2 .1) e test,
-        filled-more (infoMeans i) (c .next .result) (l .inv .2 .2) (read-aligned m (now (a .table)) (a .n) _ (infoMeans i) e)
-            (c .next .ensures ∙ ap (λ (f : Layout). nextPlace (l .placed) f (record { 0 = l .k })) (c .before .layout-in .ensures))
-            (omega (arith, test, l .inv .1, s .pre .2)),
+        done ++ r .0 ∷ [],
+        goes-on look (now (a .references)) (l .k) done (r .0) (l .inv .2 .1) (r .1) test,
+        rw (layouts-more m done (r .0)) (stands-more (l .placed) (layoutsIn m done) (l .k) (l .inv .2 .2) (layoutOf m (r .0)) al (c .next .result) q),
+        rw (layouts-more m done (r .0))
+            (staged-more (l .placed) (layoutsIn m done) (l .k) (l .inv .2 .2) (layoutOf m (r .0)) al (c .next .result) q (l .stage) (l .inv .2 .3) (omega (arith, test, l .inv .1, s .pre .2))),
       ),
     )
 
@@ -128,16 +124,14 @@ same-length-2 c = search needs
 
 returns-2 : tie.Need-returns-2 Inv-loop μ-loop
 unfolding then
-returns-2 c =
-    let a = c .before .before .before .before .before .before .before .args in
+returns-2 c = let a = c .before .before .before .before .before .before .args in
     let l = c .before .before .loop in
     let done = l .inv .2 .0 in
-    let s = l .inv .2 .2 in
     let fs = layoutsIn (memoryOf (a .memory)) done in
-    let e = ends (read (now (a .table)) (a .n)) 0 (now (a .references)) (l .k) done (l .inv .2 .1) (c .before .loop-test .left) in (
-      rw e (c .finish .ensures ∙ finish-is (l .placed) fs (s .aligned) (s .stands)),
-      λ p f. rw (← le-antisymm (l .inv .0) (c .before .loop-test .left))
-          (offsets-are (l .placed) fs (s .aligned) (s .stands) (take (l .k) (l .stage)) (s .staged) p (rw e at f)),
+    let e = ends (read (now (a .table)) (a .n)) (now (a .references)) (l .k) done (l .inv .2 .1) (c .before .loop-test .left) in (
+      rw e (c .finish .ensures ∙ finish-is (l .placed) fs (l .k) (l .inv .2 .2)),
+      λ p f. let q = placed-is (l .placed) fs (l .k) (l .inv .2 .2) p (rw e at f) in
+          rw (← le-antisymm (l .inv .0) (c .before .loop-test .left)) (q .0 ∙ sym (l .inv .2 .3 (q .1))),
     )
 
 pub fill-spec : {M : Type 1} → statement M
@@ -146,19 +140,17 @@ fill-spec =
     (tie.spec
     Inv-loop
     μ-loop
-    start-requires
     loop-holds
-    mul-read
-    shared-slice-read-read
-    read-requires
-    enum-known-info
-    layout-in-requires
-    cast-t16
+    mul-read-member
+    shared-slice-read-read-member
+    read-member-requires
+    enum-known-layout
+    cast-t17
     next-requires
     mul-stage
     slice-write-stage
     enum-known-why
-    cast-t20
+    cast-t21
     same-length
     returns
     add-k

@@ -1,5 +1,8 @@
--- What `gather` answers, the borrow alone (`borrow-gathered`).
-use Rattle.canon.specs.Answer.{then}
+-- What all reach together (`borrow-gathered`).
+use mathlib.Core.Bool.{Bool}
+use mathlib.Core.Path.{ap, _∙_}
+use denote.Ref.{now}
+use Rattle.canon.specs.Answer.{ok, then}
 use Rattle.canon.specs.Layout.{mem32}
 use Rattle.signature.proofs.Asking.{borrow-gathered}
 use borrow.Author.Needs.{needs}
@@ -12,17 +15,26 @@ gather-requires c κs = search needs
 enum-known-all : tie.Need-enum-known-all
 enum-known-all c = search needs
 
+is-borrow-requires : tie.Need-is-borrow-requires
+is-borrow-requires c κs = search needs
+
 enum-known-why : tie.Need-enum-known-why
 enum-known-why c = search needs
 
 returns : tie.Need-returns
 unfolding then
-returns c = rw (borrow-gathered mem32 _ _ _, ← c .before .before .before .gather .ensures, c .before .all .given .1)
+returns c =
+    let a = c .before .before .before .before .before .before .before .before .args in
+    ap (λ (x : Bool). ok x) (c .is-borrow .ensures)
+    ∙ rw (borrow-gathered mem32 (now (a .table)) (a .n) (now (a .references)), ← c .before .before .before .before .before .gather .ensures, c .before .before .before .all .given .1)
 
 returns-2 : tie.Need-returns-2
 unfolding then
-returns-2 c = rw (borrow-gathered mem32 _ _ _, ← c .before .before .before .gather .ensures, c .before .why .given .1)
+returns-2 c =
+    let a = c .before .before .before .before .before .before .args in
+    rw (borrow-gathered mem32 (now (a .table)) (a .n) (now (a .references)), ← c .before .before .before .gather .ensures, c .before .why .given .1)
 
 pub contains-borrow-resource-spec : {M : Type 1} → statement M
 contains-borrow-resource-spec =
-    tie.close (tie.spec gather-requires enum-known-all enum-known-why returns returns-2)
+    tie.close
+    (tie.spec gather-requires enum-known-all is-borrow-requires enum-known-why returns returns-2)

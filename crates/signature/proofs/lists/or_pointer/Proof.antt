@@ -1,7 +1,8 @@
 -- The count tells whether the list is within the maximum (`is-listed`, `is-beyond`).
 use mathlib.Core.Path.{_∙_}
 use Rattle.canon.specs.Signature.{orPointer}
-use Rattle.flat_types.specs.Lists.{memoryOf, words}
+use Rattle.types.specs.Means.{memoryOf}
+use Rattle.flat_types.specs.Lists.{words, flat}
 use Rattle.signature.proofs.Maxima.{is-listed, is-beyond, pointer-alone}
 use borrow.Author.Needs.{needs}
 use Rattle.signature.proofs.lists.or_pointer.Statement.{statement}
@@ -12,16 +13,18 @@ with-pointer-requires c κs = search needs
 
 returns : tie.Need-returns
 unfolding orPointer
-returns c = λ o e.
+returns c =
     let a = c .before .before .args in
-    let r = is-listed o (a .max) (words (a .flat)) e (c .before .before .pre) (c .if1 .taken) in
+    let p = c .before .before .pre in
+    let r = is-listed (flat (a .list)) (a .max) (words (a .list)) (p .1) (p .0) (c .if1 .taken) in
     rw (r .1) (r .2)
 
 returns-2 : tie.Need-returns-2
 unfolding orPointer
-returns-2 c = λ o e.
+returns-2 c =
     let a = c .before .before .before .args in
-    rw (is-beyond o (a .max) (words (a .flat)) e (c .before .before .before .pre) (c .before .if1 .left))
+    let p = c .before .before .before .pre in
+    rw (is-beyond (flat (a .list)) (a .max) (words (a .list)) (p .1) (p .0) (c .before .if1 .left))
     (c .with-pointer .ensures ∙ pointer-alone (memoryOf (a .memory)))
 
 pub or-pointer-spec : {M : Type 1} → statement M

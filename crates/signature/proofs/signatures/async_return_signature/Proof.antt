@@ -1,26 +1,30 @@
--- The infos that were read, as many as references (`two-signature`), decide.
+-- The infos that were read (`two-signature`) decide, and whether lower has references.
 use mathlib.Core.Path.{sym, ap, _∙_}
 use denote.Ref.{now}
+use lib.Dec.{eqb}
 use lib.ListN.{length}
 use Rattle.canon.specs.Answer.{then}
-use Rattle.canon.specs.Signature.{returnOf, asyncReturnAnswer}
-use Rattle.flat_types.specs.Lists.{memoryOf}
-use Rattle.signature.specs.Means.{sideMeans, bothMeans}
-use Rattle.signature.specs.Packs.{Lists}
-use Rattle.signature.proofs.Asking.{two-signature, two-refused}
-use Rattle.signature.proofs.Maxima.{empty-is}
+use Rattle.canon.specs.Signature as canon
+use Rattle.canon.specs.Signature.{flatAll, returnOf, asyncReturnAnswer}
+use Rattle.types.specs.Means.{memoryOf}
+use Rattle.signature.specs.Means.{sideMeans, twoMeans}
+use Rattle.signature.specs.Packs.{packedSignature, Lists}
+use Rattle.signature.proofs.Asking.{two-signature, two-refused, two-whole}
+use Rattle.signature.proofs.Maxima.{return-packed}
 use borrow.Author.Needs.{needs}
 use Rattle.signature.proofs.signatures.async_return_signature.Statement.{statement}
 use Rattle.signature.proofs.signatures.async_return_signature.Tie as tie
 
-both-requires : tie.Need-both-requires
-both-requires c κs = search needs
+gather-two-requires : tie.Need-gather-two-requires
+gather-two-requires c κs = search needs
 
 enum-known-params : tie.Need-enum-known-params
 enum-known-params c = search needs
 
 return-of-requires : tie.Need-return-of-requires
-return-of-requires c κs = search needs
+return-of-requires c κs =
+    let a = c .before .before .before .before .before .before .before .args in
+    two-whole (now (a .table)) (a .n) (memoryOf (a .lift .memory)) (memoryOf (a .lower .memory)) (now (a .lifted)) (now (a .lowered)) _ (sym (ap twoMeans (c .before .params .given .1)) ∙ c .before .before .before .gather-two .ensures)
 
 enum-known-why : tie.Need-enum-known-why
 enum-known-why c = search needs
@@ -29,21 +33,32 @@ returns : tie.Need-returns
 unfolding asyncReturnAnswer then
 returns c =
     let a = c .before .before .before .before .before .before .before .before .args in
-    two-signature (now (a .table)) (a .n) (memoryOf (a .lift .memory)) (memoryOf (a .lower .memory)) (now (a .lifted)) (now (a .lowered))
-    (λ is′ js. returnOf (sideMeans (a .lift)) is′ (sideMeans (a .lower)) js) _ _
-    (sym (ap bothMeans (c .before .before .params .given .1)) ∙ c .before .before .before .before .both .ensures)
-    (λ is′ js e l.
-    c .return-of .ensures is′ js (ap (λ (x : Lists). x .first) e) (ap (λ (x : Lists). x .second) e) (empty-is js (length (now (a .lowered))) l))
+    let lower = sideMeans (a .lower) in
+    let lift = sideMeans (a .lift) in
+    two-signature (now (a .table)) (a .n) (lift .memory) (lower .memory) (now (a .lifted)) (now (a .lowered))
+    (λ is′ js. returnOf lift (flatAll (lift .memory) is′) lower (flatAll (lower .memory) js) (eqb (length (now (a .lowered))) 0)) _ _
+    (sym (ap twoMeans (c .before .before .params .given .1)) ∙ c .before .before .before .before .gather-two .ensures)
+    (λ is′ js e.
+    c .return-of .ensures
+    ∙ ap packedSignature (return-packed lift lower (flatAll (lift .memory) is′) (flatAll (lower .memory) js) _ _ (eqb (length (now (a .lowered))) 0) (ap (λ (x : Lists). x .first) e) (ap (λ (x : Lists). x .second) e)))
 
 returns-2 : tie.Need-returns-2
 unfolding asyncReturnAnswer then
 returns-2 c =
     let a = c .before .before .before .before .before .before .before .args in
-    two-refused (now (a .table)) (a .n) (memoryOf (a .lift .memory)) (memoryOf (a .lower .memory)) (now (a .lifted)) (now (a .lowered))
-    (λ is′ js. returnOf (sideMeans (a .lift)) is′ (sideMeans (a .lower)) js) _ _
-    (sym (ap bothMeans (c .before .why .given .1)) ∙ c .before .before .before .both .ensures)
+    let lower = sideMeans (a .lower) in
+    let lift = sideMeans (a .lift) in
+    two-refused (now (a .table)) (a .n) (lift .memory) (lower .memory) (now (a .lifted)) (now (a .lowered))
+    (λ is′ js. returnOf lift (flatAll (lift .memory) is′) lower (flatAll (lower .memory) js) (eqb (length (now (a .lowered))) 0)) _ _
+    (sym (ap twoMeans (c .before .why .given .1)) ∙ c .before .before .before .gather-two .ensures)
 
 pub async-return-signature-spec : {M : Type 1} → statement M
 async-return-signature-spec =
     tie.close
-    (tie.spec both-requires enum-known-params return-of-requires enum-known-why returns returns-2)
+    (tie.spec
+    gather-two-requires
+    enum-known-params
+    return-of-requires
+    enum-known-why
+    returns
+    returns-2)

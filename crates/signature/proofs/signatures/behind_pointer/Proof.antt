@@ -1,19 +1,22 @@
--- The tests pick the case.
-use Rattle.signature.specs.Packs.{behind}
+-- An async lower by its references, a sync one by the count.
+use Rattle.canon.specs.Signature.{behindPointer}
+use Rattle.flat_types.specs.Lists.{words, flat}
+use Rattle.signature.proofs.Maxima.{behind-is}
 use Rattle.signature.proofs.signatures.behind_pointer.Statement.{statement}
 use Rattle.signature.proofs.signatures.behind_pointer.Tie as tie
 
 returns : tie.Need-returns
-unfolding behind
+unfolding behindPointer
 returns c = rw (c .before .if1 .taken, c .if2 .taken)
 
 returns-2 : tie.Need-returns-2
-unfolding behind
+unfolding behindPointer
 returns-2 c = rw (c .before .if1 .taken, c .if2 .left)
 
 returns-3 : tie.Need-returns-3
-unfolding behind
-returns-3 c = rw (c .if1 .left)
+returns-3 c =
+    let a = c .before .before .args in
+    rw (c .before .if1 .left) (behind-is (flat (a .lowered)) (words (a .lowered)) (c .before .before .pre) (a .empty))
 
 pub behind-pointer-spec : {M : Type 1} → statement M
 behind-pointer-spec = tie.close (tie.spec returns returns-2 returns-3)

@@ -1,0 +1,57 @@
+-- Plain, or a row of good form.
+use borrow.Author.Tests.{lt-leb}
+use Rattle.canon.specs.Question.{read}
+use borrow.Author.Needs.{needs}
+use Rattle.questions.proofs.ask.read.Statement.{statement}
+use Rattle.questions.proofs.ask.read.Tie as tie
+
+plain-info-requires : tie.Need-plain-info-requires
+plain-info-requires c κs = search needs
+
+enum-known-info : tie.Need-enum-known-info
+enum-known-info c = search needs
+
+enum-told : tie.Need-enum-told
+enum-told c = search needs
+
+returns : tie.Need-returns
+unfolding read
+returns c = simp (lt-leb _ _ (c .before .before .before .before .if1 .taken), ← c .before .before .before .plain-info .ensures .0, c .before .info .given .1)
+
+returns-2 : tie.Need-returns-2
+unfolding read
+returns-2 c = simp (lt-leb _ _ (c .before .before .before .if1 .taken), ← c .before .before .plain-info .ensures .0, c .enum-told .given .1)
+
+row-of-requires : tie.Need-row-of-requires
+row-of-requires c κs = search needs
+
+enum-known-index : tie.Need-enum-known-index
+enum-known-index c = search needs
+
+row-info-requires : tie.Need-row-info-requires
+row-info-requires c κs = search needs
+
+enum-known-why : tie.Need-enum-known-why
+enum-known-why c = search needs
+
+returns-3 : tie.Need-returns-3
+returns-3 c = rw (← c .before .before .before .before .row-of .ensures .0, c .before .before .index .given .1, c .row-info .ensures .0)
+
+returns-4 : tie.Need-returns-4
+returns-4 c = rw (← c .before .before .before .row-of .ensures .0, c .before .why .given .1)
+
+pub read-spec : {M : Type 1} → statement M
+read-spec =
+    tie.close
+    (tie.spec
+    plain-info-requires
+    enum-known-info
+    enum-told
+    returns
+    returns-2
+    row-of-requires
+    enum-known-index
+    row-info-requires
+    enum-known-why
+    returns-3
+    returns-4)

@@ -1,0 +1,70 @@
+-- What the first pass remembers the second writes (`written`); where it refuses nothing is written (`untouched`).
+use mathlib.Core.Path.{refl, ap, sym, _∙_}
+use denote.Ref.{now}
+use lib.ListN.{length, length-map}
+use Rattle.canon.specs.Layout.{starts}
+use Rattle.types.specs.Means.{memoryOf}
+use Rattle.questions.specs.Means.{layoutAnswerMeans}
+use Rattle.questions.specs.Steps.{memberOf, known}
+use Rattle.questions.proofs.Members.{answered, untouched, written, length-starts}
+use Rattle.questions.proofs.Memos.{remembers-none}
+use borrow.Author.Needs.{needs}
+use Rattle.questions.proofs.placing.place_long.Statement.{statement}
+use Rattle.questions.proofs.placing.place_long.Tie as tie
+
+slice-aggregate-judge : tie.Need-slice-aggregate-judge
+slice-aggregate-judge c = search needs
+
+judge-requires : tie.Need-judge-requires
+judge-requires c κs = let s = c .before .before .before .before in
+    (s .pre .0, s .pre .1, refl, remembers-none (memberOf (memoryOf (s .args .memory)) (now (s .args .table)) (s .args .n)) 1088)
+
+enum-known-layout : tie.Need-enum-known-layout
+enum-known-layout c = search needs
+
+slice-aggregate-write : tie.Need-slice-aggregate-write
+slice-aggregate-write c = search needs
+
+write-requires : tie.Need-write-requires
+write-requires c κs = let s = c .before .before .before .before .before .before .before .before .before .before .before in
+    let f = c .before .before .before .before .before .before .judge in
+    let p = answered _ _ (sym (ap layoutAnswerMeans (c .before .before .before .layout .given .1)) ∙ f .ensures .0) in
+    let r = f .ensures .1 (p .0) (p .1) in
+    (s .pre .1, search needs, search needs, record { there = r .there; aligned = r .aligned; fits = r .fits; offsets-are = refl })
+
+enum-known-why : tie.Need-enum-known-why
+enum-known-why c = search needs
+
+same-length : tie.Need-same-length
+same-length c = search needs
+
+returns : tie.Need-returns
+returns c = let a = c .before .before .before .before .before .before .before .before .before .before .before .before .before .before .args in
+    let f = c .before .before .before .before .before .before .before .before .before .judge in
+    let e = sym (ap layoutAnswerMeans (c .before .before .before .before .before .before .layout .given .1)) ∙ f .ensures .0 in
+    let p = answered _ _ e in
+    let fs = known (f .last .1 .1 .1 .1 .0) (now (a .references)) in
+    record {
+      answer = e;
+      buffer = written _ (p .0) (starts 0 fs) _ _ (length (now (a .references))) (p .1) (f .ensures .1 (p .0) (p .1) .offsets-are)
+          (length-starts 0 fs ∙ length-map (now (a .references)) _) (c .before .before .write .ensures);
+    }
+
+returns-2 : tie.Need-returns-2
+returns-2 c = let f = c .before .before .before .before .judge in
+    let e = sym (ap layoutAnswerMeans (c .before .why .given .1)) ∙ f .ensures .0 in
+    record { answer = e; buffer = untouched _ _ _ _ e }
+
+pub place-long-spec : {M : Type 1} → statement M
+place-long-spec =
+    tie.close
+    (tie.spec
+    slice-aggregate-judge
+    judge-requires
+    enum-known-layout
+    slice-aggregate-write
+    write-requires
+    enum-known-why
+    same-length
+    returns
+    returns-2)

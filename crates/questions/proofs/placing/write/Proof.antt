@@ -1,0 +1,132 @@
+-- The loop's invariant: the offsets of the references so far stand before the words that were there (`write-turn`).
+use mathlib.Core.Path.{_≡_, refl, sym, ap, _∙_}
+use mathlib.Core.List.{List, [], _∷_, _++_}
+use Prim.Native.Nat.{ℕ, _-_, _≤_}
+use native.Mathlib.Nat.{le-antisymm, le-refl}
+use native.Mathlib.Omega.{arith}
+use denote.Ref.{now}
+use lib.ListN.{length, getD, take, drop, length-set, length-append, length-map}
+use lib.Seq.{take-all}
+use Rattle.canon.specs.Layout.{Layout, starts}
+use Rattle.questions.specs.Steps.{memoLayout, known, nextPlace}
+use Rattle.questions.proofs.Members.{Stands, Staged, nothing-stands, stands-more, staged-last}
+use Rattle.questions.proofs.Memos.{known-more, known-aligned, there-below, write-turn}
+use borrow.Author.Needs.{needs}
+use Rattle.questions.proofs.placing.write.Statement.{statement}
+use Rattle.questions.proofs.placing.write.Tie as tie
+
+abbrev Inv-loop : tie.InvT-loop
+Inv-loop references memo out₀ placed₀ k₀ out placed k =
+    (k ≤ length references)
+    × (length out ≡ length out₀)
+    × Stands placed (take k (known memo references)) k
+    × ((os : List ℕ) × (length os ≡ k) × (out ≡ os ++ drop k out₀) × Staged os (take k (known memo references)))
+
+abbrev μ-loop : tie.MeasureT-loop
+μ-loop references memo out₀ placed₀ k₀ out placed k = length references - k
+
+loop-holds : tie.Need-loop-holds Inv-loop μ-loop
+unfolding starts
+loop-holds c = (search needs, refl, nothing-stands, ([], refl, refl, λ h. refl))
+
+mul-word : tie.Need-mul-word Inv-loop μ-loop
+mul-word c = search needs
+
+shared-slice-read-word : tie.Need-shared-slice-read-word Inv-loop μ-loop
+shared-slice-read-word c = search needs
+
+cast-word : tie.Need-cast-word Inv-loop μ-loop
+cast-word c = omega (arith, c .shared-slice-known3 .given (c .before .before .loop .k))
+
+mul-word-2 : tie.Need-mul-word-2 Inv-loop μ-loop
+mul-word-2 c = let s = c .before .before .before .before .before .before in
+    let l = c .before .before .loop in
+    let g = there-below (now (s .args .memo)) (getD (now (s .args .references)) (l .k) 0) (s .pre .3 .there (l .k) (c .before .loop-test .taken)) in
+    omega (arith, g, s .pre .2, s .pre .1)
+
+shared-slice-read-word-2 : tie.Need-shared-slice-read-word-2 Inv-loop μ-loop
+shared-slice-read-word-2 c = let s = c .before .before .before .before .before .before .before in
+    let l = c .before .before .before .loop in
+    let g = there-below (now (s .args .memo)) (getD (now (s .args .references)) (l .k) 0) (s .pre .3 .there (l .k) (c .before .before .loop-test .taken)) in
+    omega (arith, g, s .pre .2, s .pre .1)
+
+memo-layout-requires : tie.Need-memo-layout-requires Inv-loop μ-loop
+memo-layout-requires c κs = search needs
+
+cast-t12 : tie.Need-cast-t12 Inv-loop μ-loop
+cast-t12 c = search needs
+
+next-requires : tie.Need-next-requires Inv-loop μ-loop
+next-requires c κs = search needs
+
+mul-out : tie.Need-mul-out Inv-loop μ-loop
+mul-out c = let s = c .before .before .before .before .before .before .before .before .before in
+    omega (arith, c .before .before .before .before .loop-test .taken, c .before .before .before .before .before .loop .inv .1, s .pre .2, s .pre .0)
+
+slice-write-out : tie.Need-slice-write-out Inv-loop μ-loop
+slice-write-out c = let s = c .before .before .before .before .before .before .before .before .before in
+    omega (arith, c .before .before .before .before .loop-test .taken, c .before .before .before .before .before .loop .inv .1, s .pre .2, s .pre .0)
+
+add-k : tie.Need-add-k Inv-loop μ-loop
+add-k c = let s = c .before .before .before .before .before .before .before .before .before in
+    omega (arith, c .before .before .before .before .loop-test .taken, s .pre .0)
+
+loop-less : tie.Need-loop-less Inv-loop μ-loop
+loop-less c = search needs
+
+loop-again : tie.Need-loop-again Inv-loop μ-loop
+loop-again c = let s = c .before .before .before .before .before .before .before .before .before in
+    let a = s .args in
+    let l = c .before .before .before .before .before .loop in
+    let test = c .before .before .before .before .loop-test .taken in
+    let memo = now (a .memo) in
+    let refs = now (a .references) in
+    let f = memoLayout (getD memo (getD refs (l .k) 0) 0) in
+    let os = l .inv .3 .0 in
+    let q = c .next .ensures ∙ ap (λ (x : Layout). nextPlace (l .placed) x (record { 0 = l .k })) (c .before .memo-layout .ensures) in
+    let al = known-aligned memo refs (l .k) (s .pre .3 .aligned) test in (
+      search needs,
+      simp length-set (l .inv .1),
+      rw (known-more memo refs (l .k) test) (stands-more (l .placed) (take (l .k) (known memo refs)) (l .k) (l .inv .2) f al (c .next .result) q),
+      (
+        os ++ c .next .result .offset ∷ [],
+        rw (length-append os (c .next .result .offset ∷ []), l .inv .3 .1),
+        rw (l .inv .3 .2) (write-turn os (now (a .out)) (c .next .result .offset) (l .k) (l .inv .3 .1) (omega (arith, test, s .pre .2))),
+        rw (known-more memo refs (l .k) test) (staged-last (l .placed) (take (l .k) (known memo refs)) (l .k) (l .inv .2) f al (c .next .result) q os (l .inv .3 .3)),
+      ),
+    )
+
+same-length : tie.Need-same-length Inv-loop μ-loop
+same-length c = search needs
+
+returns : tie.Need-returns Inv-loop μ-loop
+returns c = let s = c .before .before .before .before .before in
+    let l = c .before .loop in
+    let fs = known (now (s .args .memo)) (now (s .args .references)) in
+    let k : l .k ≡ length (now (s .args .references)) = le-antisymm (l .inv .0) (c .loop-test .left) in
+    let whole : take (l .k) fs ≡ fs = take-all (l .k) fs (rw (length-map (now (s .args .references)) _, k) (le-refl (length (now (s .args .references))))) in
+    let os = rw whole at (l .inv .3 .3) in
+    rw (← k, ← os (s .pre .3 .fits)) (l .inv .3 .2)
+
+pub write-spec : {M : Type 1} → statement M
+write-spec =
+    tie.close
+    (tie.spec
+    Inv-loop
+    μ-loop
+    loop-holds
+    mul-word
+    shared-slice-read-word
+    cast-word
+    mul-word-2
+    shared-slice-read-word-2
+    memo-layout-requires
+    cast-t12
+    next-requires
+    mul-out
+    slice-write-out
+    add-k
+    loop-less
+    loop-again
+    same-length
+    returns)

@@ -1,0 +1,33 @@
+-- A row that is named stands within the table (`row-is`); its test is that of the good form.
+use mathlib.Core.Path.{refl, sym, _∙_}
+use borrow.Author.Tests.{lt-ltb, le-ltb, le-leb}
+use Rattle.canon.specs.Question.{readRow, read}
+use Rattle.questions.proofs.References.{row-is}
+use borrow.Author.Needs.{needs}
+use Rattle.questions.proofs.read.row_of.Statement.{statement}
+use Rattle.questions.proofs.read.row_of.Tie as tie
+
+sub-t5 : tie.Need-sub-t5
+sub-t5 c = search needs
+
+is-good-row-requires : tie.Need-is-good-row-requires
+is-good-row-requires c κs = search needs
+
+returns : tie.Need-returns
+unfolding read readRow
+returns c = let s = c .before .before .before .before .before in
+    let good = sym (c .before .is-good-row .ensures) ∙ c .if2 .taken in
+    (rw (le-leb 64 _ (s .pre .1), lt-ltb _ _ (c .before .before .if1 .taken), ← row-is _ _ _ (s .pre .0) (c .before .before .if1 .taken), good), good)
+
+returns-2 : tie.Need-returns-2
+unfolding read readRow
+returns-2 c = let s = c .before .before .before .before .before in
+    let bad = sym (c .before .is-good-row .ensures) ∙ c .if2 .left in
+    (rw (le-leb 64 _ (s .pre .1), lt-ltb _ _ (c .before .before .if1 .taken), ← row-is _ _ _ (s .pre .0) (c .before .before .if1 .taken), bad), refl)
+
+returns-3 : tie.Need-returns-3
+unfolding read
+returns-3 c = (rw (le-leb 64 _ (c .before .before .before .pre .1), le-ltb _ _ (c .if1 .left)), refl)
+
+pub row-of-spec : {M : Type 1} → statement M
+row-of-spec = tie.close (tie.spec sub-t5 is-good-row-requires returns returns-2 returns-3)

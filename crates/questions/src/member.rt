@@ -1,0 +1,93 @@
+// A member of a placement: its layout in one memory, read off the table, or out of a memo of what was read before.
+ghost use mathlib.Core.Path.{_≡_};
+ghost use mathlib.Core.Bool.{false};
+ghost use Prim.Native.Nat.{_+_, _*_, _<_};
+ghost use lib.ListN.{length};
+ghost use Rattle.canon.specs.Question.{noTable};
+ghost use Rattle.types.specs.Means.{memoryOf, layoutMeans};
+ghost use Rattle.canon.specs.Placement.{fourGiB};
+ghost use Rattle.questions.specs.Means.{memberMeans};
+ghost use Rattle.questions.specs.Steps.{layoutOf, memberOf, memoLayout, Remembers, Recalled};
+use crate::answer::LayoutAnswer;
+use crate::ask::size_align;
+use crate::read::Defined;
+use crate::read::row_of;
+use table::FIRST_DEFINITION;
+use table::Found;
+use table::plain_info;
+use table::row_layout;
+use types::Layout;
+use types::Memory;
+use types::Refusal;
+
+pub(crate) enum Member {
+    Layout(Layout),
+    Refused(Refusal),
+}
+
+const FOUR_GIB: u64 = 4294967296;
+
+pub(crate) fn read_member(memory: Memory, table: &[u32], n: u32, reference: u32) -> Member
+    requires { ⌜ noTable (now table) n ≡ false ⌝ }
+    ensures { λ r. ⌜ memberMeans r ≡ memberOf (memoryOf memory) (now (table .entry)) n reference ⌝ }
+{
+    if reference < FIRST_DEFINITION {
+        return match plain_info(reference) {
+            Found::Info(info) => {
+                let layouts = info.layouts;
+                Member::Layout(layouts.in_memory(memory))
+            }
+            Found::BadRef => Member::Refused(Refusal::BadRef),
+        };
+    }
+    match row_of(table, n, reference) {
+        Defined::Row(index) => Member::Layout(row_layout(table, index, memory)),
+        Defined::Refused(why) => Member::Refused(why),
+    }
+}
+
+// A layout as a word of the memo. No alignment is 0, so that 0 stands for none.
+fn memo_word(layout: Layout) -> u64
+    ensures { λ r. ⌜ r ≡ layout .align * fourGiB + layout .size ⌝ }
+{
+    layout.align as u64 * FOUR_GIB + layout.size as u64
+}
+
+pub(crate) fn memo_layout(word: u64) -> Layout
+    ensures { λ r. ⌜ layoutMeans r ≡ memoLayout word ⌝ }
+{
+    let size = word % FOUR_GIB;
+    let align = word / FOUR_GIB;
+    Layout {
+        size: size as u32,
+        align: align as u32,
+    }
+}
+
+// The memo has a word for each reference that a table can hold, at the reference's own place.
+pub(crate) fn recall(
+    memory: Memory,
+    table: &[u32],
+    n: u32,
+    reference: u32,
+    memo: &mut [u64],
+) -> Member
+    requires { ⌜ (noTable (now table) n ≡ false) × (length (now memo) ≡ 1088) × Remembers (memberOf (memoryOf memory) (now table) n) (now memo) ⌝ }
+    ensures { λ r. ⌜ memberMeans r ≡ memberOf (memoryOf memory) (now (table .entry)) n reference ⌝ }
+    ensures { λ _. ⌜ Recalled (memberOf (memoryOf memory) (now (table .entry)) n) reference (now (memo .entry)) (now (memo .exit)) ⌝ }
+{
+    let at = reference as usize;
+    if at < memo.len() {
+        let known = memo[at];
+        if known > 0 {
+            return Member::Layout(memo_layout(known));
+        }
+    }
+    match size_align(memory, table, n, reference) {
+        LayoutAnswer::Layout(layout) => {
+            memo[at] = memo_word(layout);
+            Member::Layout(layout)
+        }
+        LayoutAnswer::Refused(why, _) => Member::Refused(why),
+    }
+}

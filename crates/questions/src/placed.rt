@@ -1,0 +1,69 @@
+// The members of a placement so far.
+ghost use mathlib.Core.Path.{_≡_};
+ghost use Rattle.types.specs.Means.{layoutMeans};
+ghost use Rattle.questions.specs.Means.{layoutAnswerMeans};
+ghost use Rattle.questions.specs.Steps.{nextPlace, finished};
+use crate::answer::LayoutAnswer;
+use table::MemberPosition;
+use types::Extent;
+use types::Layout;
+use types::Refusal;
+
+const FOUR_GIB: u64 = 4294967296;
+
+// Their extent, where the last of them starts, and the last that begins before the extent is too large: where it is, the one that passed.
+pub(crate) struct Placed {
+    extent: Extent,
+    pub(crate) offset: u32,
+    over: MemberPosition,
+}
+
+impl Placed {
+    pub(crate) const NONE: Placed = Placed {
+        extent: Extent { end: 0, align: 1 },
+        offset: 0,
+        over: MemberPosition(0),
+    };
+
+    // A start past the memory is cut: its placement is refused, and the offset is not written.
+    pub(crate) fn next(self, member: Layout, position: MemberPosition) -> Placed
+        ensures { λ r. ⌜ r ≡ nextPlace self (layoutMeans member) position ⌝ }
+    {
+        let before = self.extent;
+        let over = self.over;
+        let step = before.member(member);
+        let extent = step.extent;
+        let start = step.start % FOUR_GIB;
+        let offset = start as u32;
+        if before.is_large() {
+            return Placed {
+                extent,
+                offset,
+                over,
+            };
+        }
+        Placed {
+            extent,
+            offset,
+            over: position,
+        }
+    }
+
+    pub(crate) fn finish(self) -> LayoutAnswer
+        ensures { λ r. ⌜ layoutAnswerMeans r ≡ finished self ⌝ }
+    {
+        let extent = self.extent;
+        let over = self.over;
+        if extent.is_large() {
+            return LayoutAnswer::Refused(Refusal::TooLarge, over);
+        }
+        let whole = extent.close();
+        if whole.is_large() {
+            return LayoutAnswer::Refused(Refusal::TooLarge, MemberPosition(0));
+        }
+        LayoutAnswer::Layout(Layout {
+            size: whole.end as u32,
+            align: whole.align,
+        })
+    }
+}
