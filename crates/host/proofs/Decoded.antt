@@ -4,8 +4,10 @@ use mathlib.Core.List.{List, _++_}
 use Prim.Native.Nat.{ℕ, _*_, _/_, _≤_, _<_, min}
 use native.Mathlib.Decide.{decLe}
 use native.Mathlib.Omega.{arith}
+use lib.Dec.{eqb}
 use lib.ListN.{length, getD, take, drop, length-take, drop-of-length-le}
 use lib.Seq.{take-all}
+use borrow.Author.Tests.{eq-eqb, ne-eqb}
 use Rattle.canon.specs.Description.{tableAfter}
 use Rattle.canon.specs.Layout.{Memory}
 use Rattle.canon.specs.Signature.{flattenAnswer, asyncStartAnswer, asyncReturnAnswer}
@@ -13,10 +15,10 @@ use Rattle.canon.specs.Question.{borrowAnswer, offsetsAfter}
 use Rattle.canon.proofs.Capped.{type-first, size-align-first, ask-first, askTwo-first, table-after-first, offsets-first}
 use Rattle.words.specs.Words.{wholeWords, putWords}
 use Rattle.words.proofs.Laws.{length-whole, front-read, put-rest}
-use Rattle.host.specs.Asked.{askedNumber}
+use Rattle.host.specs.Questions.{questionNumber}
 use Rattle.host.specs.Numbers.{memoryAt}
-use Rattle.host.specs.declared.asked.Asked.{Asked}
-use Rattle.host.specs.declared.asked.Asked.the-variants as asked
+use Rattle.host.specs.declared.question.Question.{Question}
+use Rattle.host.specs.declared.question.Question.the-variants as question
 
 -- the front of a buffer of c words, where words were decoded
 pub front :
@@ -29,20 +31,27 @@ pub front-all :
     take n u ≡ wholeWords b
 front-all b w {u} {n} c l h e f = front b w c l e f ∙ take-all c (wholeWords b) (omega (arith, length-whole b))
 
-pub asked-first :
-    (a : Asked) (t : List ℕ) (n : ℕ) (vs ws : List ℕ) →
-    askedNumber a (take 16384 t) n (take 16385 vs) (take 16385 ws) ≡ askedNumber a t n vs ws
+-- a list has no words where its first words are none
+empty-first : (ws : List ℕ) → eqb (length (take 16385 ws)) 0 ≡ eqb (length ws) 0
+empty-first ws =
+    ap (λ (i : ℕ). eqb i 0) (length-take 16385 ws)
+    ∙ elim (decLe 1 (length ws)) [
+      | yes h ↦ ne-eqb (min 16385 (length ws)) 0 (λ e. omega arith) ∙ sym (ne-eqb (length ws) 0 (λ e. omega arith))
+      | no h ↦ eq-eqb (min 16385 (length ws)) 0 (omega arith) ∙ sym (eq-eqb (length ws) 0 (omega arith))
+    ]
+
+pub question-first :
+    (q : Question) (t : List ℕ) (n : ℕ) (vs ws : List ℕ) →
+    questionNumber q (take 16384 t) n (take 16385 vs) (take 16385 ws) ≡ questionNumber q t n vs ws
 unfolding flattenAnswer asyncStartAnswer asyncReturnAnswer borrowAnswer
-asked-first (asked.Type w k) t n vs ws = rw (type-first t n w)
-asked-first (asked.SizeAlign m w) t n vs ws = rw (size-align-first (memoryAt m) t n w)
-asked-first (asked.Flatten m max) t n vs ws = rw (ask-first t n)
-asked-first (asked.Lowering m a) t n vs ws = rw (ask-first t n)
-asked-first (asked.Lifting m a) t n vs ws = rw (ask-first t n)
-asked-first (asked.AsyncStartParams m a l) t n vs ws = rw (askTwo-first t n)
-asked-first (asked.AsyncStartResults m a l) t n vs ws = rw (askTwo-first t n)
-asked-first (asked.AsyncReturnParams m a l b) t n vs ws = rw (askTwo-first t n)
-asked-first (asked.AsyncReturnResults m a l b) t n vs ws = rw (askTwo-first t n)
-asked-first asked.ContainsBorrow t n vs ws = rw (ask-first t n)
+question-first (question.Type w k) t n vs ws = rw (type-first t n w)
+question-first (question.SizeAlign m w) t n vs ws = rw (size-align-first (memoryAt m) t n w)
+question-first (question.Flatten m max) t n vs ws = rw (ask-first t n)
+question-first (question.Lowering m a) t n vs ws = rw (ask-first t n)
+question-first (question.Lifting m a) t n vs ws = rw (ask-first t n)
+question-first (question.AsyncStart m a l k) t n vs ws = rw (askTwo-first t n)
+question-first (question.AsyncReturn m a l b k) t n vs ws = rw (empty-first ws, askTwo-first t n)
+question-first question.ContainsBorrow t n vs ws = rw (ask-first t n)
 
 -- the first words of a buffer put back, as though all had been
 put-first :

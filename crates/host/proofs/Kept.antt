@@ -7,15 +7,15 @@ use denote.Ref.{RefT, now, at-last}
 use lib.ListN.{length, getD}
 use Rattle.canon.specs.Answer.{Answer, ok, refused, then}
 use Rattle.canon.specs.Layout.{Layout}
-use Rattle.canon.specs.Question.{Placing, placing, placementAnswer, written, offsetsAfter}
+use Rattle.canon.specs.Question.{Placing, placing, placementAnswer, bufferAfter, offsetsAfter}
 use Rattle.canon.proofs.Tests.{impossible}
 use Rattle.words.specs.Words.{wholeWords, putWords}
 use Rattle.words.proofs.Laws.{put-same}
 use Rattle.host.specs.Numbers.{memoryAt}
 use Rattle.host.proofs.table_bytes.lampughjata_placement_bytes.Reads as placement-bytes
 
-unwritten : (a : Answer Placing) (x i : ℕ) (out : List ℕ) → then a (λ p. ok (p .layout)) ≡ refused x i → written a out ≡ out
-unfolding then written
+unwritten : (a : Answer Placing) (x i : ℕ) (out : List ℕ) → then a (λ p. ok (p .layout)) ≡ refused x i → bufferAfter a out ≡ out
+unfolding then bufferAfter
 unwritten (ok p) x i out e = impossible (cc)
 unwritten (refused y j) x i out e = refl
 

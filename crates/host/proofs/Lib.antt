@@ -1,7 +1,11 @@
 -- Laws that several proofs of this crate cite.
+pub mod Chosen
 pub mod Packs
+pub mod Taken
 pub mod Several
+pub mod Sources
 pub mod Unique
 pub mod Decoded
 pub mod Short
 pub mod Kept
+mod Front

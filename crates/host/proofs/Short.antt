@@ -6,11 +6,11 @@ use mathlib.Core.Option.{Option, none, some}
 use Prim.Native.Nat.{ℕ, _+_, _≤_, _<_, _^_}
 use native.Mathlib.Nat.{lt-of-lt-of-le, pow-le-pow-right}
 use native.Mathlib.Omega.{arith}
-use lib.Dec.{leb, ltb, lit≤}
+use lib.Dec.{leb, ltb, lit≤, eqb}
 use lib.ListN.{length, length-append}
 use borrow.Author.Tests.{leb-true, ltb-false}
 use Rattle.canon.specs.Answer.{Answer, ok, refused, then, unless, tooLong, badCount, noRoom, badRow}
-use Rattle.canon.specs.Flat.{Core, ptrType}
+use Rattle.canon.specs.Flat.{ptrType}
 use Rattle.canon.specs.Layout.{Memory}
 use Rattle.canon.specs.Pack.{pack}
 use Rattle.canon.specs.Row.{Info}
@@ -38,6 +38,7 @@ use Rattle.canon.specs.Signature.{
   returnOf,
   asyncReturnAnswer,
 }
+use Rattle.canon.specs.Types.{Core}
 use Rattle.canon.proofs.Packing.{pack-lt}
 use Rattle.signature.specs.Packs.{packedList, packedFlat, packedFlattened, packedSignature, packedAnswer}
 use Rattle.signature.proofs.Maxima.{params-short, maximum-small}
@@ -136,6 +137,6 @@ return-short t n lift vs lower ws =
     then-answers ShortSignature (asyncReturnAnswer t n lift vs lower ws) packedSignature
     (askTwo-answers (λ s. ShortSignature (packedSignature s)) t n vs ws _
     (λ is′ js.
-    returned-short (lift .memory) (behindPointer (lower .async) js (atMost 1 (flatAll (lower .memory) js))) _ _
+    returned-short (lift .memory) (behindPointer (lower .async) (eqb (length ws) 0) (atMost 1 (flatAll (lower .memory) js))) _ _
     (params-short (lift .memory) (liftingMax (lift .async)) (flatAll (lift .memory) is′) (maximum-small (lift .async) 16 1 (omega arith) (omega arith)))
     (results-short 1 (flatAll (lower .memory) js) (omega arith))))

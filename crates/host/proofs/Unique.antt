@@ -13,8 +13,8 @@ use Rattle.host.proofs.leaves.lampughjata_flags.Reads as flags
 use Rattle.host.proofs.leaves.lampughjata_enum.Reads as enum
 use Rattle.host.proofs.leaves.lampughjata_fixed_length_list.Reads as fixed-length-list
 use Rattle.host.proofs.leaves.lampughjata_discriminant.Reads as discriminant
-use Rattle.host.proofs.infos.lampughjata_record.Reads as record-of
-use Rattle.host.proofs.infos.lampughjata_variant.Reads as variant-of
+use Rattle.host.proofs.records.lampughjata_record.Reads as record-of
+use Rattle.host.proofs.variants.lampughjata_variant.Reads as variant-of
 use Rattle.host.proofs.tables.lampughjata_build.Reads as build
 use Rattle.host.proofs.tables.lampughjata_type.Reads as type
 use Rattle.host.proofs.tables.lampughjata_size_align.Reads as size-align
@@ -22,13 +22,11 @@ use Rattle.host.proofs.tables.lampughjata_placement.Reads as placement
 use Rattle.host.proofs.signatures.lampughjata_flatten.Reads as flatten
 use Rattle.host.proofs.signatures.lampughjata_lowering.Reads as lowering
 use Rattle.host.proofs.signatures.lampughjata_lifting.Reads as lifting
-use Rattle.host.proofs.signatures.lampughjata_async_start_params.Reads as async-start-params
-use Rattle.host.proofs.signatures.lampughjata_async_start_results.Reads as async-start-results
-use Rattle.host.proofs.signatures.lampughjata_async_return_params.Reads as async-return-params
-use Rattle.host.proofs.signatures.lampughjata_async_return_results.Reads as async-return-results
+use Rattle.host.proofs.signatures.lampughjata_async_start.Reads as async-start
+use Rattle.host.proofs.signatures.lampughjata_async_return.Reads as async-return
 use Rattle.host.proofs.signatures.lampughjata_contains_borrow.Reads as contains-borrow
-use Rattle.host.proofs.infos_bytes.lampughjata_record_bytes.Reads as record-bytes
-use Rattle.host.proofs.infos_bytes.lampughjata_variant_bytes.Reads as variant-bytes
+use Rattle.host.proofs.records.lampughjata_record_bytes.Reads as record-bytes
+use Rattle.host.proofs.variants.lampughjata_variant_bytes.Reads as variant-bytes
 use Rattle.host.proofs.table_bytes.lampughjata_build_bytes.Reads as build-bytes
 use Rattle.host.proofs.table_bytes.lampughjata_type_bytes.Reads as type-bytes
 use Rattle.host.proofs.table_bytes.lampughjata_size_align_bytes.Reads as size-align-bytes
@@ -36,10 +34,8 @@ use Rattle.host.proofs.table_bytes.lampughjata_placement_bytes.Reads as
 use Rattle.host.proofs.signature_bytes.lampughjata_flatten_bytes.Reads as flatten-bytes
 use Rattle.host.proofs.signature_bytes.lampughjata_lowering_bytes.Reads as lowering-bytes
 use Rattle.host.proofs.signature_bytes.lampughjata_lifting_bytes.Reads as lifting-bytes
-use Rattle.host.proofs.signature_bytes.lampughjata_async_start_params_bytes.Reads as async-start-params-bytes
-use Rattle.host.proofs.signature_bytes.lampughjata_async_start_results_bytes.Reads as async-start-results-bytes
-use Rattle.host.proofs.signature_bytes.lampughjata_async_return_params_bytes.Reads as async-return-params-bytes
-use Rattle.host.proofs.signature_bytes.lampughjata_async_return_results_bytes.Reads as async-return-results-bytes
+use Rattle.host.proofs.signature_bytes.lampughjata_async_start_bytes.Reads as async-start-bytes
+use Rattle.host.proofs.signature_bytes.lampughjata_async_return_bytes.Reads as async-return-bytes
 use Rattle.host.proofs.signature_bytes.lampughjata_contains_borrow_bytes.Reads as contains-borrow-bytes
 
 -- what is not written is at exit what it was
@@ -108,17 +104,11 @@ lowering-one κs a r q g h = g ∙ sym h
 pub lifting-one : (κs : Lfts 2) → Single (lifting.Post κs)
 lifting-one κs a r q g h = g ∙ sym h
 
-pub async-start-params-one : (κs : Lfts 3) → Single (async-start-params.Post κs)
-async-start-params-one κs a r q g h = g ∙ sym h
+pub async-start-one : (κs : Lfts 3) → Single (async-start.Post κs)
+async-start-one κs a r q g h = g ∙ sym h
 
-pub async-start-results-one : (κs : Lfts 3) → Single (async-start-results.Post κs)
-async-start-results-one κs a r q g h = g ∙ sym h
-
-pub async-return-params-one : (κs : Lfts 3) → Single (async-return-params.Post κs)
-async-return-params-one κs a r q g h = g ∙ sym h
-
-pub async-return-results-one : (κs : Lfts 3) → Single (async-return-results.Post κs)
-async-return-results-one κs a r q g h = g ∙ sym h
+pub async-return-one : (κs : Lfts 3) → Single (async-return.Post κs)
+async-return-one κs a r q g h = g ∙ sym h
 
 pub contains-borrow-one : (κs : Lfts 2) → Single (contains-borrow.Post κs)
 contains-borrow-one κs a r q g h = g ∙ sym h
@@ -158,17 +148,11 @@ lowering-bytes-one κs a r q g h = g ∙ sym h
 pub lifting-bytes-one : (κs : Lfts 2) → Single (lifting-bytes.Post κs)
 lifting-bytes-one κs a r q g h = g ∙ sym h
 
-pub async-start-params-bytes-one : (κs : Lfts 3) → Single (async-start-params-bytes.Post κs)
-async-start-params-bytes-one κs a r q g h = g ∙ sym h
+pub async-start-bytes-one : (κs : Lfts 3) → Single (async-start-bytes.Post κs)
+async-start-bytes-one κs a r q g h = g ∙ sym h
 
-pub async-start-results-bytes-one : (κs : Lfts 3) → Single (async-start-results-bytes.Post κs)
-async-start-results-bytes-one κs a r q g h = g ∙ sym h
-
-pub async-return-params-bytes-one : (κs : Lfts 3) → Single (async-return-params-bytes.Post κs)
-async-return-params-bytes-one κs a r q g h = g ∙ sym h
-
-pub async-return-results-bytes-one : (κs : Lfts 3) → Single (async-return-results-bytes.Post κs)
-async-return-results-bytes-one κs a r q g h = g ∙ sym h
+pub async-return-bytes-one : (κs : Lfts 3) → Single (async-return-bytes.Post κs)
+async-return-bytes-one κs a r q g h = g ∙ sym h
 
 pub contains-borrow-bytes-one : (κs : Lfts 2) → Single (contains-borrow-bytes.Post κs)
 contains-borrow-bytes-one κs a r q g h = g ∙ sym h

@@ -1,4 +1,4 @@
--- A description in lent bytes (docs/HOST.md): "more than 65,536 bytes is refusal 1 at 0, one whose length four does not divide refusal 2 at 0".
+-- A description in lent bytes (docs/HOST.md): "more than 65,536 bytes is refusal 1 at 0; else, if its length is not a multiple of four, .. 2 at 0".
 -- Then the table is one of words; "the bytes after the last whole word are neither read nor written".
 use mathlib.Core.Bool.{Bool, cond}
 use mathlib.Core.List.{List}

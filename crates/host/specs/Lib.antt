@@ -1,6 +1,7 @@
--- A reader of the promises needs Numbers, Infos and Bytes. Asked and Short follow the code; proofs/ carries them to those and to canon.
+-- A reader of the promises needs Numbers, Infos and Bytes. Questions, Sources and Short follow the code; proofs/ carries them to those and to canon.
 pub mod Numbers
 pub mod Infos
 pub mod Bytes
-pub mod Asked
+pub mod Questions
+pub mod Sources
 pub mod Short

@@ -2,13 +2,13 @@
 use mathlib.Core.Bool.{Bool, cond, not}
 use mathlib.Core.List.{List, [], _∷_, _++_}
 use mathlib.Core.Option.{Option, none, some}
-use Prim.Native.Nat.{ℕ, _+_, _-_, _*_, _^_}
+use Prim.Native.Nat.{ℕ, _+_, _-_, _*_, _^_, min}
 use lib.Dec.{leb, ltb, eqb}
 use lib.ListN.{length, getD}
 use Rattle.canon.specs.Answer.{Leaf, is, no, Answer, ok, refused}
 use Rattle.canon.specs.Layout.{Memory, mem32, mem64, Layout}
 use Rattle.canon.specs.Pack.{Packed}
-use Rattle.canon.specs.Row.{Abi, Info, borrowWord}
+use Rattle.canon.specs.Row.{Abi, Info, countWord}
 use Rattle.canon.specs.Signature.{Side}
 use Rattle.types.specs.Leaves.{Field, VariantAbi}
 use Rattle.signature.specs.Packs.{PackedSignature}
@@ -26,16 +26,20 @@ isSet x = not (eqb x 0)
 abbrev pub sideAt : ℕ → ℕ → Side
 sideAt memory async = record { memory = memoryAt memory; async = isSet async }
 
--- "A flat count is 0 to 255, anything above is none"
+-- of two flat counts: "0 to 254 is the count, 255 and everything above is none"
 abbrev pub flatAt : ℕ → Option ℕ
-flatAt x = cond (leb x 255) (some x) none
+flatAt x = cond (leb x 254) (some x) none
+
+-- of an info, as in word 5 of a row: "0 to 16 is the count, 255 is none, every other number is a bad info"; each bad one stands as 17
+abbrev pub infoFlatAt : ℕ → Option ℕ
+infoFlatAt x = cond (eqb x 255) none (some (min x 17))
 
 -- an info: "size32, align32, size64, align64, flat count"
 abbrev pub abiAt : ℕ → ℕ → ℕ → ℕ → ℕ → Abi
 abiAt size32 align32 size64 align64 flat =
     record {
       layouts = record { in32 = record { size = size32; align = align32 }; in64 = record { size = size64; align = align64 } };
-      flats = flatAt flat;
+      flats = infoFlatAt flat;
     }
 
 -- Answers
@@ -59,40 +63,46 @@ leafNumber value (no x) = refusalNumber x 0
 abbrev pub itself : ℕ → ℕ
 itself n = n
 
--- "none is answered as 256"
-abbrev pub flatNumber : Option ℕ → ℕ
-flatNumber none = 256
-flatNumber (some n) = n
-
 -- the number k of several; any k above is the last one's
 unfoldable pub chosen : ℕ → List ℕ → ℕ
 chosen k ws = getD ws (cond (ltb k (length ws)) k (length ws - 1)) 0
 
--- "k = 0 size32, 1 align32, 2 size64, 3 align64, 4 the flat count"
+-- "k = 0 size32, 1 align32, 2 size64, 3 align64, 4 the flat count"; "none is answered as 255", as in a row
 abbrev pub abiWords : Abi → List ℕ
 abiWords a =
     a .layouts .in32 .size
     ∷ a .layouts .in32 .align
     ∷ a .layouts .in64 .size
     ∷ a .layouts .in64 .align
-    ∷ flatNumber (a .flats)
+    ∷ countWord (a .flats)
     ∷ []
 
 -- "k = 0 to 4 as for `flags`, 5 the bytes of the discriminant, 6 and 7 the payload offsets"
+abbrev pub innerWords : VariantAbi → List ℕ
+innerWords v = v .disc ∷ v .offsets .in32 ∷ v .offsets .in64 ∷ []
+
 abbrev pub variantWords : VariantAbi → List ℕ
-variantWords v = abiWords (v .abi) ++ (v .disc ∷ v .offsets .in32 ∷ v .offsets .in64 ∷ [])
+variantWords v = abiWords (v .abi) ++ innerWords v
 
 -- "k = 0 the offset, 1 the moved end"
 abbrev pub fieldWords : Field → List ℕ
 fieldWords f = f .offset ∷ f .end ∷ []
 
+-- "0 or 1"
+abbrev pub yesNumber : Bool → ℕ
+yesNumber b = cond b 1 0
+
 -- "k = 0 to 4 as for `flags`, 5 and 6 the flat words, 7 the borrow"
 abbrev pub typeWords : Info → List ℕ
-typeWords i = abiWords (i .abi) ++ (i .flatWords .in32 ∷ i .flatWords .in64 ∷ borrowWord (i .borrow) ∷ [])
+typeWords i = abiWords (i .abi) ++ (i .flatWords .in32 ∷ i .flatWords .in64 ∷ yesNumber (i .reach .borrow) ∷ [])
 
 -- "the size in bits 0 to 31, the alignment in bits 32 to 39"
 abbrev pub layoutNumber : Layout → ℕ
 layoutNumber f = 2 ^ 32 * f .align + f .size
+
+-- of a placement: "a layout"
+abbrev pub placementNumber : Layout → ℕ
+placementNumber = layoutNumber
 
 -- a list: "the packed types in bits 0 to 33, two bits each and the first lowest, their count in bits 40 to 47"
 abbrev pub listNumber : Packed → ℕ
@@ -103,8 +113,6 @@ abbrev pub flattenedNumber : Option Packed → ℕ
 flattenedNumber none = 2 ^ 55
 flattenedNumber (some p) = listNumber p
 
-abbrev pub paramsNumber : PackedSignature → ℕ
-paramsNumber s = listNumber (s .params)
-
-abbrev pub resultsNumber : PackedSignature → ℕ
-resultsNumber s = listNumber (s .results)
+-- the two lists: "k = 0 the parameters, 1 the results"
+abbrev pub signatureLists : PackedSignature → List ℕ
+signatureLists s = listNumber (s .params) ∷ listNumber (s .results) ∷ []

@@ -1,13 +1,12 @@
 // What the numbers that a host passes stand for.
 ghost use mathlib.Core.Path.{_≡_};
-ghost use Rattle.types.specs.Means.{countMeans, abiMeans};
-ghost use Rattle.flat_types.specs.Lists.{memoryOf};
+ghost use Rattle.types.specs.Means.{memoryOf, countMeans, abiMeans};
 ghost use Rattle.signature.specs.Means.{sideMeans};
-ghost use Rattle.host.specs.Numbers.{memoryAt, isSet, sideAt, flatAt, abiAt};
-use flat_types::Memory;
+ghost use Rattle.host.specs.Numbers.{memoryAt, isSet, sideAt, flatAt, infoFlatAt, abiAt};
 use signature::Side;
 use types::CanonicalAbiInfo;
 use types::FlatCount;
+use types::Memory;
 
 pub(crate) fn memory_at(memory: u32) -> Memory
     ensures { λ r. ⌜ memoryOf r ≡ memoryAt memory ⌝ }
@@ -37,10 +36,24 @@ pub(crate) fn side_at(memory: u32, async_: u32) -> Side
 pub(crate) fn flat_at(flat: u32) -> FlatCount
     ensures { λ r. ⌜ countMeans r ≡ flatAt flat ⌝ }
 {
-    if flat <= 255 {
+    if flat <= 254 {
         FlatCount::Count(flat as u8)
     } else {
         FlatCount::None
+    }
+}
+
+// One count above 16 stands for all of them: such an info is bad, whichever it is.
+fn info_flat_at(flat: u32) -> FlatCount
+    ensures { λ r. ⌜ countMeans r ≡ infoFlatAt flat ⌝ }
+{
+    if flat == 255 {
+        return FlatCount::None;
+    }
+    if flat <= 16 {
+        FlatCount::Count(flat as u8)
+    } else {
+        FlatCount::Count(17)
     }
 }
 
@@ -58,6 +71,6 @@ pub(crate) fn abi_at(
         align32,
         size64,
         align64,
-        flat_count: flat_at(flat),
+        flat_count: info_flat_at(flat),
     }
 }

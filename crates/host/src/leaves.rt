@@ -2,9 +2,10 @@
 ghost use mathlib.Core.Path.{_≡_};
 ghost use Prim.Native.Nat.{max};
 ghost use Rattle.canon.specs.Flat.{addFlat, maxFlat};
+ghost use Rattle.canon.specs.Row.{countWord};
 ghost use Rattle.types.specs.Leaves.{alignTo, nextField, discriminantAnswer, flagsAnswer, enumAnswer, fixedAnswer};
 ghost use Rattle.types.specs.Means.{abiMeans, nextMeans};
-ghost use Rattle.host.specs.Numbers.{memoryAt, flatAt, abiAt, leafNumber, itself, flatNumber, chosen, abiWords, fieldWords};
+ghost use Rattle.host.specs.Numbers.{memoryAt, flatAt, abiAt, leafNumber, itself, chosen, abiWords, fieldWords};
 use crate::given::abi_at;
 use crate::given::flat_at;
 use crate::packing::abi_number;
@@ -33,14 +34,14 @@ pub extern "C" fn lampughjata_max(a: u32, b: u32) -> u64
 
 #[no_mangle]
 pub extern "C" fn lampughjata_add_flat(a: u32, b: u32) -> u64
-    ensures { λ r. ⌜ r ≡ flatNumber (addFlat (flatAt a) (flatAt b)) ⌝ }
+    ensures { λ r. ⌜ r ≡ countWord (addFlat (flatAt a) (flatAt b)) ⌝ }
 {
     wide(flat_number(types::add_flat(flat_at(a), flat_at(b))))
 }
 
 #[no_mangle]
 pub extern "C" fn lampughjata_max_flat(a: u32, b: u32) -> u64
-    ensures { λ r. ⌜ r ≡ flatNumber (maxFlat (flatAt a) (flatAt b)) ⌝ }
+    ensures { λ r. ⌜ r ≡ countWord (maxFlat (flatAt a) (flatAt b)) ⌝ }
 {
     wide(flat_number(types::max_flat(flat_at(a), flat_at(b))))
 }

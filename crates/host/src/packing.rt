@@ -2,13 +2,13 @@
 ghost use mathlib.Core.Path.{_≡_};
 ghost use Prim.Native.Nat.{_<_};
 ghost use lib.ListN.{length};
-ghost use Rattle.canon.specs.Row.{borrowWord};
-ghost use Rattle.types.specs.Means.{numberOf, bytesOf, roundedMeans, countMeans, discriminantMeans, abiMeans, infoMeans as abiAnswerMeans, variantMeans, nextMeans};
+ghost use Rattle.canon.specs.Row.{countWord};
+ghost use Rattle.types.specs.Means.{numberOf, roundedMeans, countMeans, discriminantMeans, layoutMeans, abiMeans, infoAnswerMeans, variantMeans, nextMeans};
 ghost use Rattle.flat_types.specs.Lists.{words};
 ghost use Rattle.build.specs.Means.{builtMeans};
-ghost use Rattle.questions.specs.Means.{typeInfoMeans, typeMeans, answerMeans as layoutAnswerMeans};
-ghost use Rattle.signature.specs.Means.{flattenedMeans, borrowMeans, answerMeans as signatureAnswerMeans};
-ghost use Rattle.host.specs.Numbers.{refusalNumber, answerNumber, leafNumber, itself, flatNumber, chosen, abiWords, variantWords, fieldWords, typeWords, layoutNumber, listNumber, flattenedNumber, paramsNumber, resultsNumber};
+ghost use Rattle.questions.specs.Means.{typeInfoMeans, typeMeans, layoutAnswerMeans};
+ghost use Rattle.signature.specs.Means.{flattenedMeans, borrowMeans, signatureAnswerMeans};
+ghost use Rattle.host.specs.Numbers.{refusalNumber, answerNumber, yesNumber, leafNumber, itself, chosen, abiWords, innerWords, fieldWords, typeWords, layoutNumber, placementNumber, listNumber, flattenedNumber, signatureLists};
 ghost use Rattle.host.specs.Short.{ShortList, ShortFlat, ShortSignature, IfAnswered};
 use build::Built;
 use flat_types::FlatList;
@@ -22,11 +22,11 @@ use types::CanonicalAbiInfo;
 use types::DiscriminantAnswer;
 use types::FlatCount;
 use types::InfoAnswer;
+use types::Layout;
 use types::NextField;
 use types::Refusal;
 use types::Rounded;
 use types::VariantAnswer;
-use types::VariantInfo;
 
 // The lowest bit of a refusal's number, of a list's count and of an alignment.
 const REFUSAL: u64 = 0x0100_0000_0000_0000;
@@ -74,11 +74,11 @@ pub(crate) fn rounded_number(answer: Rounded) -> u64
 }
 
 pub(crate) fn flat_number(count: FlatCount) -> u32
-    ensures { λ r. ⌜ r ≡ flatNumber (countMeans count) ⌝ }
+    ensures { λ r. ⌜ r ≡ countWord (countMeans count) ⌝ }
 {
     match count {
         FlatCount::Count(n) => n as u32,
-        FlatCount::None => 256,
+        FlatCount::None => 255,
     }
 }
 
@@ -105,7 +105,7 @@ fn abi_words(info: CanonicalAbiInfo) -> [u32; 5]
 }
 
 pub(crate) fn abi_number(answer: InfoAnswer, k: u32) -> u64
-    ensures { λ r. ⌜ r ≡ leafNumber (λ a. chosen k (abiWords a)) (abiAnswerMeans answer) ⌝ }
+    ensures { λ r. ⌜ r ≡ leafNumber (λ a. chosen k (abiWords a)) (infoAnswerMeans answer) ⌝ }
 {
     match answer {
         InfoAnswer::Info(info) => {
@@ -116,29 +116,18 @@ pub(crate) fn abi_number(answer: InfoAnswer, k: u32) -> u64
     }
 }
 
-fn variant_words(variant: VariantInfo, info: CanonicalAbiInfo) -> [u32; 8]
-    ensures { λ r. ⌜ r ≡ variantWords (record { disc = bytesOf (variant .size); offsets = record { in32 = variant .«payload_offset32»; in64 = variant .«payload_offset64» }; abi = abiMeans info }) ⌝ }
-{
-    let size = variant.size;
-    let flat = info.flat_count;
-    [
-        info.size32,
-        info.align32,
-        info.size64,
-        info.align64,
-        flat_number(flat),
-        size.byte_size(),
-        variant.payload_offset32,
-        variant.payload_offset64,
-    ]
-}
-
-pub(crate) fn variant_number(answer: VariantAnswer, k: u32) -> u64
-    ensures { λ r. ⌜ r ≡ leafNumber (λ v. chosen k (variantWords v)) (variantMeans answer) ⌝ }
+// The numbers of a variant beside those of its info.
+pub(crate) fn inner_number(answer: VariantAnswer, k: u32) -> u64
+    ensures { λ r. ⌜ r ≡ leafNumber (λ v. chosen k (innerWords v)) (variantMeans answer) ⌝ }
 {
     match answer {
-        VariantAnswer::Variant(variant, info) => {
-            let words = variant_words(variant, info);
+        VariantAnswer::Variant(variant, _) => {
+            let size = variant.size;
+            let words = [
+                size.byte_size(),
+                variant.payload_offset32,
+                variant.payload_offset64,
+            ];
             choose(&words, k)
         }
         VariantAnswer::Refused(why) => refused(why, 0),
@@ -167,7 +156,7 @@ pub(crate) fn built_number(answer: Built) -> u64
 }
 
 fn bit(b: bool) -> u32
-    ensures { λ r. ⌜ r ≡ borrowWord b ⌝ }
+    ensures { λ r. ⌜ r ≡ yesNumber b ⌝ }
 {
     if b { 1 } else { 0 }
 }
@@ -201,11 +190,26 @@ pub(crate) fn type_number(answer: TypeAnswer, k: u32) -> u64
     }
 }
 
+fn packed_layout(layout: Layout) -> u64
+    ensures { λ r. ⌜ r ≡ layoutNumber (layoutMeans layout) ⌝ }
+{
+    ALIGN * wide(layout.align) + wide(layout.size)
+}
+
 pub(crate) fn layout_number(answer: LayoutAnswer) -> u64
     ensures { λ r. ⌜ r ≡ answerNumber layoutNumber (layoutAnswerMeans answer) ⌝ }
 {
     match answer {
-        LayoutAnswer::Layout(layout) => ALIGN * wide(layout.align) + wide(layout.size),
+        LayoutAnswer::Layout(layout) => packed_layout(layout),
+        LayoutAnswer::Refused(why, position) => refused(why, position.0),
+    }
+}
+
+pub(crate) fn placement_number(answer: LayoutAnswer) -> u64
+    ensures { λ r. ⌜ r ≡ answerNumber placementNumber (layoutAnswerMeans answer) ⌝ }
+{
+    match answer {
+        LayoutAnswer::Layout(layout) => packed_layout(layout),
         LayoutAnswer::Refused(why, position) => refused(why, position.0),
     }
 }
@@ -228,34 +232,26 @@ pub(crate) fn flattened_number(answer: Flattened) -> u64
     }
 }
 
-pub(crate) fn params_number(answer: SignatureAnswer) -> u64
+pub(crate) fn signature_number(answer: SignatureAnswer, k: u32) -> u64
     requires { ⌜ IfAnswered ShortSignature (signatureAnswerMeans answer) ⌝ }
-    ensures { λ r. ⌜ r ≡ answerNumber paramsNumber (signatureAnswerMeans answer) ⌝ }
+    ensures { λ r. ⌜ r ≡ answerNumber (λ s. chosen k (signatureLists s)) (signatureAnswerMeans answer) ⌝ }
 {
     match answer {
         SignatureAnswer::Signature(signature) => {
             let params = signature.params;
-            list_number(params)
-        }
-        SignatureAnswer::Refused(why, position) => refused(why, position.0),
-    }
-}
-
-pub(crate) fn results_number(answer: SignatureAnswer) -> u64
-    requires { ⌜ IfAnswered ShortSignature (signatureAnswerMeans answer) ⌝ }
-    ensures { λ r. ⌜ r ≡ answerNumber resultsNumber (signatureAnswerMeans answer) ⌝ }
-{
-    match answer {
-        SignatureAnswer::Signature(signature) => {
             let results = signature.results;
-            list_number(results)
+            if k == 0 {
+                list_number(params)
+            } else {
+                list_number(results)
+            }
         }
         SignatureAnswer::Refused(why, position) => refused(why, position.0),
     }
 }
 
 pub(crate) fn borrow_number(answer: BorrowAnswer) -> u64
-    ensures { λ r. ⌜ r ≡ answerNumber borrowWord (borrowMeans answer) ⌝ }
+    ensures { λ r. ⌜ r ≡ answerNumber yesNumber (borrowMeans answer) ⌝ }
 {
     match answer {
         BorrowAnswer::Reached(b) => wide(bit(b)),

@@ -5,24 +5,24 @@ ghost use Prim.Native.Nat.{_/_};
 ghost use Rattle.canon.specs.Description.{buildAnswer, tableAfter};
 ghost use Rattle.canon.specs.Question.{typeAnswer, sizeAlignAnswer, placementAnswer, offsetsAfter};
 ghost use Rattle.words.specs.Words.{wholeWords, putWords};
-ghost use Rattle.host.specs.Numbers.{memoryAt, answerNumber, itself, chosen, typeWords, layoutNumber};
+ghost use Rattle.host.specs.Numbers.{memoryAt, answerNumber, itself, chosen, typeWords, layoutNumber, placementNumber};
 ghost use Rattle.host.specs.Bytes.{buildBytes, tableBytes};
-use crate::asked::Asked;
-use crate::asked::ask_bytes;
 use crate::packing::refused;
+use crate::question::Question;
+use crate::question::ask_bytes;
 use crate::tables::lampughjata_build;
 use crate::tables::lampughjata_placement;
 use types::Refusal;
 use words::put_words;
 use words::words_of;
 
-fn build_into(ws: &[u32], t: &mut [u32], table: &mut [u8]) -> u64
-    ensures { λ r. ⌜ r ≡ answerNumber itself (buildAnswer (now (ws .entry)) (now (t .entry))) ⌝ }
-    ensures { λ _. ⌜ (now (t .exit) ≡ tableAfter (now (ws .entry)) (now (t .entry))) × (length (now (t .exit)) ≡ length (now (t .entry))) ⌝ }
-    ensures { λ _. ⌜ now (table .exit) ≡ putWords 0 (take (length (now (table .entry)) / 4) (now (t .exit))) (now (table .entry)) ⌝ }
+fn build_into(words: &[u32], table: &mut [u32], bytes: &mut [u8]) -> u64
+    ensures { λ r. ⌜ r ≡ answerNumber itself (buildAnswer (now (words .entry)) (now (table .entry))) ⌝ }
+    ensures { λ _. ⌜ (now (table .exit) ≡ tableAfter (now (words .entry)) (now (table .entry))) × (length (now (table .exit)) ≡ length (now (table .entry))) ⌝ }
+    ensures { λ _. ⌜ now (bytes .exit) ≡ putWords 0 (take (length (now (bytes .entry)) / 4) (now (table .exit))) (now (bytes .entry)) ⌝ }
 {
-    let answer = lampughjata_build(ws, t);
-    put_words(t, table);
+    let answer = lampughjata_build(words, table);
+    put_words(table, bytes);
     answer
 }
 
@@ -40,41 +40,46 @@ pub extern "C" fn lampughjata_build_bytes(words: &[u8], table: &mut [u8]) -> u64
     }
     let mut ws = [0u32; 16384];
     let count = words_of(words, &mut ws);
-    let mut t = [0u32; 16384];
-    let room = words_of(table, &mut t);
-    build_into(&ws[..count], &mut t[..room], table)
+    let mut ts = [0u32; 16384];
+    let room = words_of(table, &mut ts);
+    build_into(&ws[..count], &mut ts[..room], table)
 }
 
 #[no_mangle]
-pub extern "C" fn lampughjata_type_bytes(t: &[u8], n: u32, reference: u32, k: u32) -> u64
-    ensures { λ r. ⌜ r ≡ answerNumber (λ i. chosen k (typeWords i)) (typeAnswer (wholeWords (now (t .entry))) n reference) ⌝ }
+pub extern "C" fn lampughjata_type_bytes(table: &[u8], rows: u32, reference: u32, k: u32) -> u64
+    ensures { λ r. ⌜ r ≡ answerNumber (λ i. chosen k (typeWords i)) (typeAnswer (wholeWords (now (table .entry))) rows reference) ⌝ }
 {
-    let asked = Asked::Type(reference, k);
-    ask_bytes(asked, t, n, &[], &[])
+    let question = Question::Type(reference, k);
+    ask_bytes(question, table, rows, &[], &[])
 }
 
 #[no_mangle]
-pub extern "C" fn lampughjata_size_align_bytes(memory: u32, t: &[u8], n: u32, reference: u32) -> u64
-    ensures { λ r. ⌜ r ≡ answerNumber layoutNumber (sizeAlignAnswer (memoryAt memory) (wholeWords (now (t .entry))) n reference) ⌝ }
+pub extern "C" fn lampughjata_size_align_bytes(
+    memory: u32,
+    table: &[u8],
+    rows: u32,
+    reference: u32,
+) -> u64
+    ensures { λ r. ⌜ r ≡ answerNumber layoutNumber (sizeAlignAnswer (memoryAt memory) (wholeWords (now (table .entry))) rows reference) ⌝ }
 {
-    let asked = Asked::SizeAlign(memory, reference);
-    ask_bytes(asked, t, n, &[], &[])
+    let question = Question::SizeAlign(memory, reference);
+    ask_bytes(question, table, rows, &[], &[])
 }
 
 fn place_into(
     memory: u32,
-    t: &[u32],
-    n: u32,
+    table: &[u32],
+    rows: u32,
     references: &[u32],
     offsets: &mut [u32],
-    out: &mut [u8],
+    bytes: &mut [u8],
 ) -> u64
-    ensures { λ r. ⌜ r ≡ answerNumber layoutNumber (placementAnswer (memoryAt memory) (now (t .entry)) n (now (references .entry)) (length (now (offsets .entry)))) ⌝ }
-    ensures { λ _. ⌜ (now (offsets .exit) ≡ offsetsAfter (memoryAt memory) (now (t .entry)) n (now (references .entry)) (now (offsets .entry))) × (length (now (offsets .exit)) ≡ length (now (offsets .entry))) ⌝ }
-    ensures { λ _. ⌜ now (out .exit) ≡ putWords 0 (take (length (now (out .entry)) / 4) (now (offsets .exit))) (now (out .entry)) ⌝ }
+    ensures { λ r. ⌜ r ≡ answerNumber placementNumber (placementAnswer (memoryAt memory) (now (table .entry)) rows (now (references .entry)) (length (now (offsets .entry)))) ⌝ }
+    ensures { λ _. ⌜ (now (offsets .exit) ≡ offsetsAfter (memoryAt memory) (now (table .entry)) rows (now (references .entry)) (now (offsets .entry))) × (length (now (offsets .exit)) ≡ length (now (offsets .entry))) ⌝ }
+    ensures { λ _. ⌜ now (bytes .exit) ≡ putWords 0 (take (length (now (bytes .entry)) / 4) (now (offsets .exit))) (now (bytes .entry)) ⌝ }
 {
-    let answer = lampughjata_placement(memory, t, n, references, offsets);
-    put_words(offsets, out);
+    let answer = lampughjata_placement(memory, table, rows, references, offsets);
+    put_words(offsets, bytes);
     answer
 }
 
@@ -82,26 +87,26 @@ fn place_into(
 #[no_mangle]
 pub extern "C" fn lampughjata_placement_bytes(
     memory: u32,
-    t: &[u8],
-    n: u32,
+    table: &[u8],
+    rows: u32,
     references: &[u8],
-    out: &mut [u8],
+    offsets: &mut [u8],
 ) -> u64
-    ensures { λ r. ⌜ r ≡ answerNumber layoutNumber (placementAnswer (memoryAt memory) (wholeWords (now (t .entry))) n (wholeWords (now (references .entry))) (length (wholeWords (now (out .entry))))) ⌝ }
-    ensures { λ _. ⌜ now (out .exit) ≡ putWords 0 (offsetsAfter (memoryAt memory) (wholeWords (now (t .entry))) n (wholeWords (now (references .entry))) (wholeWords (now (out .entry)))) (now (out .entry)) ⌝ }
+    ensures { λ r. ⌜ r ≡ answerNumber placementNumber (placementAnswer (memoryAt memory) (wholeWords (now (table .entry))) rows (wholeWords (now (references .entry))) (length (wholeWords (now (offsets .entry))))) ⌝ }
+    ensures { λ _. ⌜ now (offsets .exit) ≡ putWords 0 (offsetsAfter (memoryAt memory) (wholeWords (now (table .entry))) rows (wholeWords (now (references .entry))) (wholeWords (now (offsets .entry)))) (now (offsets .entry)) ⌝ }
 {
     let mut ts = [0u32; 16384];
-    let room = words_of(t, &mut ts);
+    let room = words_of(table, &mut ts);
     let mut rs = [0u32; 16385];
     let count = words_of(references, &mut rs);
     let mut os = [0u32; 16384];
-    let offsets = words_of(out, &mut os);
+    let length = words_of(offsets, &mut os);
     place_into(
         memory,
         &ts[..room],
-        n,
+        rows,
         &rs[..count],
-        &mut os[..offsets],
-        out,
+        &mut os[..length],
+        offsets,
     )
 }

@@ -3,10 +3,11 @@ ghost use mathlib.Core.Path.{_≡_};
 ghost use lib.ListN.{length};
 ghost use Rattle.canon.specs.Description.{buildAnswer, tableAfter};
 ghost use Rattle.canon.specs.Question.{typeAnswer, sizeAlignAnswer, placementAnswer, offsetsAfter};
-ghost use Rattle.host.specs.Numbers.{memoryAt, answerNumber, itself, chosen, typeWords, layoutNumber};
+ghost use Rattle.host.specs.Numbers.{memoryAt, answerNumber, itself, chosen, typeWords, layoutNumber, placementNumber};
 use crate::given::memory_at;
 use crate::packing::built_number;
 use crate::packing::layout_number;
+use crate::packing::placement_number;
 use crate::packing::type_number;
 use questions::canonical_abi;
 use questions::placement;
@@ -21,29 +22,34 @@ pub extern "C" fn lampughjata_build(words: &[u32], table: &mut [u32]) -> u64
 }
 
 #[no_mangle]
-pub extern "C" fn lampughjata_type(t: &[u32], n: u32, reference: u32, k: u32) -> u64
-    ensures { λ r. ⌜ r ≡ answerNumber (λ i. chosen k (typeWords i)) (typeAnswer (now (t .entry)) n reference) ⌝ }
+pub extern "C" fn lampughjata_type(table: &[u32], rows: u32, reference: u32, k: u32) -> u64
+    ensures { λ r. ⌜ r ≡ answerNumber (λ i. chosen k (typeWords i)) (typeAnswer (now (table .entry)) rows reference) ⌝ }
 {
-    type_number(canonical_abi(t, n, reference), k)
+    type_number(canonical_abi(table, rows, reference), k)
 }
 
 #[no_mangle]
-pub extern "C" fn lampughjata_size_align(memory: u32, t: &[u32], n: u32, reference: u32) -> u64
-    ensures { λ r. ⌜ r ≡ answerNumber layoutNumber (sizeAlignAnswer (memoryAt memory) (now (t .entry)) n reference) ⌝ }
+pub extern "C" fn lampughjata_size_align(
+    memory: u32,
+    table: &[u32],
+    rows: u32,
+    reference: u32,
+) -> u64
+    ensures { λ r. ⌜ r ≡ answerNumber layoutNumber (sizeAlignAnswer (memoryAt memory) (now (table .entry)) rows reference) ⌝ }
 {
-    layout_number(size_align(memory_at(memory), t, n, reference))
+    layout_number(size_align(memory_at(memory), table, rows, reference))
 }
 
 #[no_mangle]
 pub extern "C" fn lampughjata_placement(
     memory: u32,
-    t: &[u32],
-    n: u32,
+    table: &[u32],
+    rows: u32,
     references: &[u32],
-    out: &mut [u32],
+    offsets: &mut [u32],
 ) -> u64
-    ensures { λ r. ⌜ r ≡ answerNumber layoutNumber (placementAnswer (memoryAt memory) (now (t .entry)) n (now (references .entry)) (length (now (out .entry)))) ⌝ }
-    ensures { λ _. ⌜ now (out .exit) ≡ offsetsAfter (memoryAt memory) (now (t .entry)) n (now (references .entry)) (now (out .entry)) ⌝ }
+    ensures { λ r. ⌜ r ≡ answerNumber placementNumber (placementAnswer (memoryAt memory) (now (table .entry)) rows (now (references .entry)) (length (now (offsets .entry)))) ⌝ }
+    ensures { λ _. ⌜ now (offsets .exit) ≡ offsetsAfter (memoryAt memory) (now (table .entry)) rows (now (references .entry)) (now (offsets .entry)) ⌝ }
 {
-    layout_number(placement(memory_at(memory), t, n, references, out))
+    placement_number(placement(memory_at(memory), table, rows, references, offsets))
 }

@@ -1,4 +1,4 @@
-use Rattle.host.specs.Numbers.{flatNumber}
+use Rattle.canon.specs.Row.{countWord}
 use mathlib.Core.Path.{ap, _∙_}
 use borrow.Author.Needs.{needs}
 use Rattle.host.proofs.leaves.lampughjata_add_flat.Statement.{statement}
@@ -20,7 +20,7 @@ wide-requires : tie.Need-wide-requires
 wide-requires c κs = search needs
 
 returns : tie.Need-returns
-returns c = c .wide .ensures ∙ c .before .flat-number .ensures ∙ ap flatNumber (rw (c .before .before .before .before .flat-at .ensures, c .before .before .before .flat-at2 .ensures) at (c .before .before .add-flat .ensures))
+returns c = c .wide .ensures ∙ c .before .flat-number .ensures ∙ ap countWord (rw (c .before .before .before .before .flat-at .ensures, c .before .before .before .flat-at2 .ensures) at (c .before .before .add-flat .ensures))
 
 pub lampughjata-add-flat-spec : {M : Type 1} → statement M
 lampughjata-add-flat-spec =

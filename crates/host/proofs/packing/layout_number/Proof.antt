@@ -5,17 +5,8 @@ use Rattle.host.proofs.packing.layout_number.Tie as tie
 enum-known-answer : tie.Need-enum-known-answer
 enum-known-answer c = search needs
 
-wide-requires : tie.Need-wide-requires
-wide-requires c κs = search needs
-
-mul-result : tie.Need-mul-result
-mul-result c = search needs
-
-wide-requires-2 : tie.Need-wide-requires-2
-wide-requires-2 c κs = search needs
-
-add-result : tie.Need-add-result
-add-result c = search needs
+packed-layout-requires : tie.Need-packed-layout-requires
+packed-layout-requires c κs = search needs
 
 enum-known-answer-2 : tie.Need-enum-known-answer-2
 enum-known-answer-2 c = search needs
@@ -24,7 +15,7 @@ refused-requires : tie.Need-refused-requires
 refused-requires c κs = search needs
 
 returns : tie.Need-returns
-returns c = simp (c .before .before .before .answer .given .1, c .before .wide .ensures, c .wide2 .ensures)
+returns c = simp (c .before .before .answer .given .1, c .packed-layout .ensures)
 
 returns-2 : tie.Need-returns-2
 returns-2 c = simp (c .before .before .answer2 .given .1, c .refused .ensures)
@@ -34,10 +25,7 @@ layout-number-spec =
     tie.close
     (tie.spec
     enum-known-answer
-    wide-requires
-    mul-result
-    wide-requires-2
-    add-result
+    packed-layout-requires
     enum-known-answer-2
     refused-requires
     returns

@@ -1,5 +1,4 @@
-use Rattle.canon.specs.Row.{borrowWord}
-use Rattle.host.specs.Numbers.{answerNumber}
+use Rattle.host.specs.Numbers.{answerNumber, yesNumber}
 use mathlib.Core.Path.{ap, _∙_}
 use borrow.Author.Needs.{needs}
 use Rattle.host.proofs.signatures.lampughjata_contains_borrow.Statement.{statement}
@@ -12,7 +11,7 @@ borrow-number-requires : tie.Need-borrow-number-requires
 borrow-number-requires c κs = search needs
 
 returns : tie.Need-returns
-returns c = c .borrow-number .ensures ∙ ap (answerNumber borrowWord) (c .before .contains-borrow-resource .ensures)
+returns c = c .borrow-number .ensures ∙ ap (answerNumber yesNumber) (c .before .contains-borrow-resource .ensures)
 
 pub lampughjata-contains-borrow-spec : {M : Type 1} → statement M
 lampughjata-contains-borrow-spec =

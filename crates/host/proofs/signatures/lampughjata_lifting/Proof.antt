@@ -18,7 +18,7 @@ flattened-number-requires : tie.Need-flattened-number-requires
 flattened-number-requires c κs = rw (c .flatten-lifting-types .ensures) (flatten-short _ _ _ _ _)
 
 returns : tie.Need-returns
-returns c = c .flattened-number .ensures ∙ ap (answerNumber flattenedNumber) (c .before .flatten-lifting-types .ensures ∙ ap (λ (s : Side). packedFlattened (liftingAnswer s (now (c .before .before .before .before .before .args .t)) (c .before .before .before .before .before .args .n) (now (c .before .before .before .before .before .args .references)))) (c .before .before .side-at .ensures))
+returns c = c .flattened-number .ensures ∙ ap (answerNumber flattenedNumber) (c .before .flatten-lifting-types .ensures ∙ ap (λ (s : Side). packedFlattened (liftingAnswer s (now (c .before .before .before .before .before .args .table)) (c .before .before .before .before .before .args .rows) (now (c .before .before .before .before .before .args .references)))) (c .before .before .side-at .ensures))
 
 pub lampughjata-lifting-spec : {M : Type 1} → statement M
 lampughjata-lifting-spec =

@@ -46,8 +46,8 @@ array-share-prefix-ws c = search needs
 slice-aggregate-build-into : tie.Need-slice-aggregate-build-into
 slice-aggregate-build-into c = let w = c .before .before .before .before .before .before .words-of in sym (length-take-le (w .result) (w .last .1 .0) (search needs))
 
-array-borrow-prefix-t : tie.Need-array-borrow-prefix-t
-array-borrow-prefix-t c = search needs
+array-borrow-prefix-ts : tie.Need-array-borrow-prefix-ts
+array-borrow-prefix-ts c = search needs
 
 slice-aggregate-build-into-2 : tie.Need-slice-aggregate-build-into-2
 slice-aggregate-build-into-2 c = let w = c .before .before .before .words-of2 in sym (length-take-le (w .result) (w .last .1 .0) (search needs))
@@ -87,7 +87,7 @@ lampughjata-build-bytes-spec =
     words-of-requires-2
     array-share-prefix-ws
     slice-aggregate-build-into
-    array-borrow-prefix-t
+    array-borrow-prefix-ts
     slice-aggregate-build-into-2
     build-into-requires
     same-length

@@ -5,7 +5,7 @@ use lib.ListN.{length, length-take}
 use lib.Seq.{length-take-le}
 use Rattle.canon.proofs.Capped.{placement-first}
 use Rattle.words.specs.Words.{wholeWords}
-use Rattle.host.specs.Numbers.{memoryAt, answerNumber, layoutNumber}
+use Rattle.host.specs.Numbers.{memoryAt, answerNumber, placementNumber}
 use Rattle.host.proofs.Decoded.{front, offsets-put}
 use borrow.Author.Needs.{needs}
 use Rattle.host.proofs.table_bytes.lampughjata_placement_bytes.Statement.{statement}
@@ -60,13 +60,13 @@ returns c =
     let list = c .before .before .before .before .before .before .before .before .before .before .before .before .before .words-of2 in
     let buffer = c .before .before .before .before .before .before .before .before .before .words-of3 in
     let into = c .before .before .before .place-into in
-    let t = wholeWords (now (a .t)) in
+    let t = wholeWords (now (a .table)) in
     let ws = wholeWords (now (a .references)) in
     let rows = front _ _ 16384 (search needs) (table .ensures .0) (table .ensures .1) in
     let few = front _ _ 16385 (search needs) (list .ensures .0) (list .ensures .1) in
     let out = front _ _ 16384 (search needs) (buffer .ensures .0) (buffer .ensures .1) in (
-      into .ensures .0 ∙ rw (rows, few, out, length-take 16384 (wholeWords (now (a .out)))) (ap (answerNumber layoutNumber) (placement-first (memoryAt (a .memory)) t (a .n) ws (length (wholeWords (now (a .out)))))),
-      into .ensures .1 .1 ∙ offsets-put _ (now (a .out)) (λ i. c .before .before .before .before .before .before .before .before .before .before .before .before .before .before .before .before .before .before .slice-known .given i .fits) (into .ensures .1 .0 .1 ∙ ap length out) (memoryAt (a .memory)) t (a .n) ws (into .ensures .1 .0 .0 ∙ rw (rows, few, out)),
+      into .ensures .0 ∙ rw (rows, few, out, length-take 16384 (wholeWords (now (a .offsets)))) (ap (answerNumber placementNumber) (placement-first (memoryAt (a .memory)) t (a .rows) ws (length (wholeWords (now (a .offsets)))))),
+      into .ensures .1 .1 ∙ offsets-put _ (now (a .offsets)) (λ i. c .before .before .before .before .before .before .before .before .before .before .before .before .before .before .before .before .before .before .slice-known .given i .fits) (into .ensures .1 .0 .1 ∙ ap length out) (memoryAt (a .memory)) t (a .rows) ws (into .ensures .1 .0 .0 ∙ rw (rows, few, out)),
     )
 
 pub lampughjata-placement-bytes-spec : {M : Type 1} → statement M

@@ -1,4 +1,4 @@
-use Rattle.host.specs.Numbers.{answerNumber, layoutNumber}
+use Rattle.host.specs.Numbers.{answerNumber, placementNumber}
 use mathlib.Core.Path.{ap, _∙_}
 use borrow.Author.Needs.{needs}
 use Rattle.host.proofs.tables.lampughjata_placement.Statement.{statement}
@@ -10,16 +10,16 @@ memory-at-requires c κs = search needs
 placement-requires : tie.Need-placement-requires
 placement-requires c κs = search needs
 
-layout-number-requires : tie.Need-layout-number-requires
-layout-number-requires c κs = search needs
+placement-number-requires : tie.Need-placement-number-requires
+placement-number-requires c κs = search needs
 
 same-length : tie.Need-same-length
 same-length c = search needs
 
 returns : tie.Need-returns
-returns c = (c .layout-number .ensures ∙ ap (answerNumber layoutNumber) (rw (c .before .before .before .before .before .memory-at .ensures) at (c .before .before .before .placement .ensures .0)), rw (c .before .before .before .before .before .memory-at .ensures) at (c .before .before .before .placement .ensures .1))
+returns c = (c .placement-number .ensures ∙ ap (answerNumber placementNumber) (rw (c .before .before .before .before .before .memory-at .ensures) at (c .before .before .before .placement .ensures .0)), rw (c .before .before .before .before .before .memory-at .ensures) at (c .before .before .before .placement .ensures .1))
 
 pub lampughjata-placement-spec : {M : Type 1} → statement M
 lampughjata-placement-spec =
     tie.close
-    (tie.spec memory-at-requires placement-requires layout-number-requires same-length returns)
+    (tie.spec memory-at-requires placement-requires placement-number-requires same-length returns)
