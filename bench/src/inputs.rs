@@ -26,6 +26,63 @@ pub fn mixed(definitions: u32) -> Vec<u32> {
     words
 }
 
+/// Definitions of random kinds over random scalars and the definitions shortly before: no two inputs of a
+/// branch alike, as a processor meets them in a stranger's description.
+pub fn random(definitions: u32) -> Vec<u32> {
+    let mut random = Random(0x9E37_79B9_7F4A_7C15);
+    let mut words = Vec::new();
+    for index in 0..definitions {
+        let kind = 1 + random.below(10);
+        words.push(kind);
+        match kind {
+            // Scalars alone, so that no size grows without bound.
+            1 | 4 => {
+                let members = random.below(6);
+                words.push(members);
+                words.extend((0..members).map(|_| random.below(18)));
+            }
+            2 => {
+                let cases = 1 + random.below(5);
+                words.push(cases);
+                words.extend((0..cases).map(|_| match random.below(3) {
+                    0 => u32::MAX,
+                    _ => random.reference(index),
+                }));
+            }
+            3 | 8 => words.push(random.reference(index)),
+            5 | 9 => words.extend([random.reference(index), random.reference(index)]),
+            6 => words.push(random.below(33)),
+            7 => words.push(1 + random.below(300)),
+            _ => {
+                let count = random.below(4);
+                words.extend([random.below(18), count]);
+            }
+        }
+    }
+    words
+}
+
+/// Repeatable random numbers (xorshift).
+struct Random(u64);
+
+impl Random {
+    fn below(&mut self, bound: u32) -> u32 {
+        self.0 ^= self.0 << 13;
+        self.0 ^= self.0 >> 7;
+        self.0 ^= self.0 << 17;
+        ((self.0 >> 20) % u64::from(bound)) as u32
+    }
+
+    /// A scalar, or one of the eight definitions before this one.
+    fn reference(&mut self, index: u32) -> u32 {
+        if index > 0 && self.below(2) == 0 {
+            64 + index - 1 - self.below(8).min(index - 1)
+        } else {
+            self.below(18)
+        }
+    }
+}
+
 /// Records of fourteen scalars, no two alike: the original looks a record that it has seen before up.
 pub fn records(definitions: u32) -> Vec<u32> {
     let mut words = Vec::new();
@@ -44,6 +101,10 @@ pub fn references(many: usize, definitions: u32) -> Vec<u32> {
     };
     (0..many).map(of).collect()
 }
+
+/// A list of U8, a record of four members and an option of that record; and eight references into its table.
+pub const SMALL: [u32; 10] = [3, 2, 1, 4, 4, 4, 6, 64, 8, 65];
+pub const SMALL_REFERENCES: [u32; 8] = [2, 6, 65, 66, 12, 2, 8, 64];
 
 /// References into the mixed definitions that flatten to exactly sixteen types: two records, a list,
 /// flags, an enum and a String.

@@ -1,6 +1,8 @@
 //! Plain arithmetic on words, as the least that such a build can cost: no refusals, no tests, not even
 //! of an index; sums wrap. It writes the same sixteen words as the port for a good description.
 
+use crate::table::{cell, put_row};
+
 /// What a member contributes.
 #[derive(Clone, Copy)]
 struct Info {
@@ -156,8 +158,8 @@ unsafe fn get(reference: u32, table: &[u32]) -> Info {
     if reference < 64 {
         return unsafe { *SCALARS.get_unchecked(reference as usize) };
     }
-    let row = 16 * (reference as usize - 64);
-    let word = |k: usize| unsafe { *table.get_unchecked(row + k) };
+    let row = reference as usize - 64;
+    let word = |k: usize| unsafe { cell(table, row, k) };
     Info {
         size: [word(1), word(3)],
         align: [word(2), word(4)],
@@ -312,6 +314,5 @@ unsafe fn write(table: &mut [u32], index: usize, kind: u32, info: &Info, extra: 
         extra[6],
         info.borrow,
     ];
-    let place = unsafe { table.get_unchecked_mut(16 * index..16 * index + 16) };
-    place.copy_from_slice(&row);
+    unsafe { put_row(table, index, row) };
 }

@@ -1,50 +1,56 @@
-//! The port's calls that are timed.
+//! The port's calls that are timed, over words and over bytes, by the declarations of the Rust crate.
 
-unsafe extern "C" {
-    fn lampughjata_build(
-        words: *const u32,
-        words_len: usize,
-        table: *mut u32,
-        table_len: usize,
-    ) -> u64;
-    fn lampughjata_placement(
-        memory: u32,
-        t: *const u32,
-        t_len: usize,
-        n: u32,
-        references: *const u32,
-        references_len: usize,
-        out: *mut u32,
-        out_len: usize,
-    ) -> u64;
-    fn lampughjata_flatten(
-        memory: u32,
-        max: u32,
-        t: *const u32,
-        t_len: usize,
-        n: u32,
-        references: *const u32,
-        references_len: usize,
-    ) -> u64;
+#[path = "../../bindings/rust/src/raw.rs"]
+#[allow(dead_code)]
+mod raw;
+
+/// The calls over one unit: in the 32-bit memory, at maximum 16.
+macro_rules! calls_over {
+    ($unit:ty, $calls:ident) => {
+        pub mod $calls {
+            use super::raw::$calls as port;
+
+            // SAFETY, for all of these: each pointer comes from a slice of the length beside it, lent for
+            // the call alone, and a mutable one is lent to nobody else.
+
+            pub fn build(words: &[$unit], table: &mut [$unit]) -> u64 {
+                unsafe { port::build(words.as_ptr(), words.len(), table.as_mut_ptr(), table.len()) }
+            }
+
+            pub fn type_of(table: &[$unit], rows: u32, reference: u32, k: u32) -> u64 {
+                unsafe { port::type_of(table.as_ptr(), table.len(), rows, reference, k) }
+            }
+
+            pub fn placement(
+                table: &[$unit],
+                rows: u32,
+                references: &[$unit],
+                offsets: &mut [$unit],
+            ) -> u64 {
+                let (table, table_len) = (table.as_ptr(), table.len());
+                let (list, list_len) = (references.as_ptr(), references.len());
+                let (out, out_len) = (offsets.as_mut_ptr(), offsets.len());
+                unsafe { port::placement(0, table, table_len, rows, list, list_len, out, out_len) }
+            }
+
+            pub fn flatten(table: &[$unit], rows: u32, references: &[$unit]) -> u64 {
+                let (table, table_len) = (table.as_ptr(), table.len());
+                let (list, list_len) = (references.as_ptr(), references.len());
+                unsafe { port::flatten(0, 16, table, table_len, rows, list, list_len) }
+            }
+        }
+    };
 }
 
-// SAFETY, for all of these: each pointer comes from a slice of the length beside it, lent for the call
-// alone, and a mutable one is lent to nobody else.
+calls_over!(u32, words);
+calls_over!(u8, bytes);
 
-pub fn build(words: &[u32], table: &mut [u32]) -> u64 {
-    unsafe { lampughjata_build(words.as_ptr(), words.len(), table.as_mut_ptr(), table.len()) }
+/// The answer of a placement: the size in bits 0 to 31, the alignment in bits 32 to 39.
+pub fn placed(size: u32, align: u32) -> u64 {
+    u64::from(size) | u64::from(align) << 32
 }
 
-/// In the 32-bit memory.
-pub fn placement(table: &[u32], n: u32, references: &[u32], out: &mut [u32]) -> u64 {
-    let (out_at, out_len) = (out.as_mut_ptr(), out.len());
-    let (t, t_len) = (table.as_ptr(), table.len());
-    let (at, len) = (references.as_ptr(), references.len());
-    unsafe { lampughjata_placement(0, t, t_len, n, at, len, out_at, out_len) }
-}
-
-/// In the 32-bit memory, at maximum 16.
-pub fn flatten(table: &[u32], n: u32, references: &[u32]) -> u64 {
-    let (t, t_len) = (table.as_ptr(), table.len());
-    unsafe { lampughjata_flatten(0, 16, t, t_len, n, references.as_ptr(), references.len()) }
+/// The answer of a flatten: the types in bits 0 to 33, their count in bits 40 to 47.
+pub fn list(packed: u64, count: u32) -> u64 {
+    packed | u64::from(count) << 40
 }

@@ -1,6 +1,8 @@
 //! The questions in Rust with the tests that 01 asks for: references and rows are judged, sizes kept
 //! below 4 GiB, nothing is written unless all is accepted. What the port's questions are held to.
 
+use crate::table::{capacity, cell};
+
 /// What the questions read of one row or scalar.
 struct Read {
     size: u32,
@@ -13,7 +15,10 @@ const SIZES: [u8; 18] = [1, 1, 1, 2, 2, 4, 4, 8, 8, 4, 8, 4, 8, 4, 4, 4, 4, 4];
 const CODES: [u8; 18] = [0, 0, 0, 0, 0, 0, 0, 1, 1, 2, 3, 0, 0, 0, 0, 0, 0, 0];
 
 /// One reference in the 32-bit memory; None if it or its row is bad.
-fn read(reference: u32, table: &[u32], n: u32) -> Option<Read> {
+///
+/// # Safety
+/// The table has room for n rows.
+unsafe fn read(reference: u32, table: &[u32], n: u32) -> Option<Read> {
     if reference < 18 {
         let k = reference as usize;
         let string = reference == 12;
@@ -25,26 +30,27 @@ fn read(reference: u32, table: &[u32], n: u32) -> Option<Read> {
         });
     }
     let index = reference.checked_sub(64).filter(|index| *index < n)? as usize;
-    let row: &[u32; 16] = table.get(16 * index..16 * index + 16)?.try_into().ok()?;
+    // SAFETY: by this function's own.
+    let word = |k: usize| unsafe { cell(table, index, k) };
     let aligned = |size: u32, align: u32| matches!(align, 1 | 2 | 4 | 8) && size & (align - 1) == 0;
-    let flat = row[5];
+    let flat = word(5);
     let unused = match flat {
         0..=15 => !((1 << (2 * flat)) - 1),
         16 => 0,
         255 => u32::MAX,
         _ => return None,
     };
-    let good = matches!(row[0], 1..=10)
-        && aligned(row[1], row[2])
-        && aligned(row[3], row[4])
-        && (row[6] | row[7]) & unused == 0
-        && matches!(row[8], 0 | 1 | 2 | 4)
-        && row[15] <= 1;
+    let good = matches!(word(0), 1..=10)
+        && aligned(word(1), word(2))
+        && aligned(word(3), word(4))
+        && (word(6) | word(7)) & unused == 0
+        && matches!(word(8), 0 | 1 | 2 | 4)
+        && word(15) <= 1;
     good.then(|| Read {
-        size: row[1],
-        align: row[2],
+        size: word(1),
+        align: word(2),
         flat,
-        types: row[6],
+        types: word(6),
     })
 }
 
@@ -65,13 +71,14 @@ fn placement_staged(
     out: &mut [u32],
     stage: &mut [u32],
 ) -> Option<(u32, u32)> {
-    if references.len() > 16_384 || n > 1_024 || 16 * n as usize > table.len() {
+    if references.len() > 16_384 || n as usize > capacity(table.len()) {
         return None;
     }
     let out = out.get_mut(..references.len())?;
     let (mut end, mut greatest) = (0_u64, 1);
     for (place, reference) in references.iter().enumerate() {
-        let member = read(*reference, table, n)?;
+        // SAFETY: there is room for n rows.
+        let member = unsafe { read(*reference, table, n) }?;
         let start = round_up(end, member.align);
         end = start + u64::from(member.size);
         if end > u64::from(u32::MAX) {
@@ -92,12 +99,13 @@ fn round_up(place: u64, align: u32) -> u64 {
 
 /// The packed types in the 32-bit memory and their count; None where refused, `Some(None)` for memory.
 pub fn flatten(table: &[u32], n: u32, max: u32, references: &[u32]) -> Option<Option<(u64, u32)>> {
-    if references.len() > 16_384 || n > 1_024 || 16 * n as usize > table.len() || max > 16 {
+    if references.len() > 16_384 || n as usize > capacity(table.len()) || max > 16 {
         return None;
     }
     let (mut packed, mut count, mut fits) = (0_u64, 0, true);
     for reference in references {
-        let part = read(*reference, table, n)?;
+        // SAFETY: there is room for n rows.
+        let part = unsafe { read(*reference, table, n) }?;
         if fits && part.flat <= max - count {
             packed |= u64::from(part.types) << (2 * count);
             count += part.flat;

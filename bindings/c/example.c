@@ -12,8 +12,9 @@ enum { RECORD = 1 };
 enum { MEMORY32 = 0, MEMORY64 = 1 };
 enum { SYNC = 0, ASYNC = 1 };
 
-/* Which number of a type is asked for. */
+/* Which number of a type is asked for, and which list of a signature. */
 enum { SIZE32, ALIGN32, SIZE64, ALIGN64, FLAT_COUNT, FLAT32, FLAT64, BORROW };
+enum { PARAMETERS, RESULTS };
 
 enum { ROW = 16 };
 
@@ -25,9 +26,11 @@ static int is_refused(const char *call, uint64_t answer)
     return number != 0;
 }
 
-static unsigned size_of(uint64_t layout) { return (unsigned)layout; }
-
-static unsigned align_of(uint64_t layout) { return (unsigned)(layout >> 32) & 0xff; }
+/* Prints what a placement answers: the size in bits 0 to 31, the alignment in bits 32 to 39. */
+static void print_placed(uint64_t placed)
+{
+    printf("size %u, alignment %u\n", (unsigned)placed, (unsigned)(placed >> 32) & 0xff);
+}
 
 /* Prints a list of core types: two bits each, the first lowest, and how many in bits 40 to 47. */
 static void print_list(uint64_t list)
@@ -60,11 +63,12 @@ static int print_placement(uint32_t memory, const uint32_t *table, size_t words,
 {
     static const uint32_t members[] = {U8, STRING, U8};
     uint32_t offset[3];
-    uint64_t layout = lampughjata_placement(memory, table, words, rows, members, 3, offset, 3);
-    if (is_refused("placement", layout)) return 1;
-    printf("placement, %s-bit memory: U8 at %u, String at %u, U8 at %u; size %u, alignment %u\n",
+    uint64_t placed = lampughjata_placement(memory, table, words, rows, members, 3, offset, 3);
+    if (is_refused("placement", placed)) return 1;
+    printf("placement, %s-bit memory: U8 at %u, String at %u, U8 at %u; ",
            memory == MEMORY32 ? "32" : "64", (unsigned)offset[0], (unsigned)offset[1],
-           (unsigned)offset[2], size_of(layout), align_of(layout));
+           (unsigned)offset[2]);
+    print_placed(placed);
     return 0;
 }
 
@@ -72,16 +76,17 @@ static int print_placement(uint32_t memory, const uint32_t *table, size_t words,
  * 32-bit memory, the called (lift) a 64-bit one, and the record is the only argument. */
 static int print_async_start(const uint32_t *table, size_t words, uint32_t rows)
 {
-    static const uint32_t parameters[] = {DEFINITION_0};
-    uint64_t params = lampughjata_async_start_params(MEMORY32, ASYNC, MEMORY64, table, words, rows,
-                                                     parameters, 1, parameters, 1);
-    uint64_t results = lampughjata_async_start_results(MEMORY32, ASYNC, MEMORY64, table, words, rows,
-                                                       parameters, 1, parameters, 1);
-    if (is_refused("async start", params) || is_refused("async start", results)) return 1;
+    static const uint32_t types[] = {DEFINITION_0};
+    uint64_t list[RESULTS + 1];
+    for (uint32_t k = PARAMETERS; k <= RESULTS; k++) {
+        list[k] = lampughjata_async_start(MEMORY32, ASYNC, MEMORY64, table, words, rows, types, 1,
+                                          types, 1, k);
+        if (is_refused("async start", list[k])) return 1;
+    }
     printf("async start: ");
-    print_list(params);
+    print_list(list[PARAMETERS]);
     printf(" -> ");
-    print_list(results);
+    print_list(list[RESULTS]);
     printf("\n");
     return 0;
 }

@@ -1,7 +1,15 @@
-/* The boundary of Lampughjata, as libhost.a has it. A slice passes as a pointer and a length in elements. One 64-bit number
- * answers each call: the refusal's number in bits 56 to 63, 0 for none, with the index or position in the low 32 bits; else the
- * value. docs/HOST.md says what each number stands for. Any number may be passed; each pointer has so many elements behind it,
- * and memory that is written overlaps nothing else that is lent. */
+/* The boundary of Lampughjata, as liblampughjata.a has it. A slice passes as a pointer and a length in elements; a slice of
+ * length 0 may be NULL. One 64-bit number answers each call: the refusal's number in bits 56 to 63, 0 for none, with the index or
+ * position in the low 32 bits; else the value. HOST.md says what each number stands for. Any number may be passed; each pointer
+ * has so many elements behind it, and memory that is written overlaps nothing else that is lent.
+ *
+ * Each call has examples, which the project compiles and holds to the library (`bindings/c/run --tests`). They are about the record
+ * (U8, String, U8), and each stands on those before it:
+ *
+ *     uint32_t words[] = {1, 3, 2, 12, 2}, table[16], members[] = {2, 12, 2}, offsets[3], record[] = {64};
+ *     uint32_t infos[] = {1, 1, 1, 1, 1, 8, 4, 16, 8, 2}, cases[] = {0, 0, 0, 0, 0, 0, 1, 8, 4, 16, 8, 2};
+ *     const uint64_t REFUSED = (uint64_t)1 << 56, ALIGN = (uint64_t)1 << 32, COUNT = (uint64_t)1 << 40, MEMORY = (uint64_t)1 << 55;
+ */
 #ifndef LAMPUGHJATA_H
 #define LAMPUGHJATA_H
 
@@ -12,81 +20,152 @@
 extern "C" {
 #endif
 
-/* Leaves */
-uint64_t lampughjata_align_to(uint32_t a, uint32_t b);
+/* The first multiple of an alignment at or after a place.
+ *     lampughjata_align_to(13, 8) == 16
+ *     lampughjata_align_to(13, 3) == 8 * REFUSED */
+uint64_t lampughjata_align_to(uint32_t place, uint32_t align);
+
+/* The greater number.
+ *     lampughjata_max(3, 7) == 7 */
 uint64_t lampughjata_max(uint32_t a, uint32_t b);
+
+/* Flat counts: 0 to 254 is the count, every number above is none, which is answered as 255. The sum, none above 16; the greater.
+ *     lampughjata_add_flat(9, 7) == 16
+ *     lampughjata_add_flat(9, 8) == 255
+ *     lampughjata_max_flat(9, 8) == 9
+ *     lampughjata_max_flat(9, 255) == 255 */
 uint64_t lampughjata_add_flat(uint32_t a, uint32_t b);
 uint64_t lampughjata_max_flat(uint32_t a, uint32_t b);
+
+/* An info is size32, align32, size64, align64 and a flat count, 0 to 16 or 255 for none. Where a String goes that follows byte 1
+ * of a 32-bit memory (0), and where it ends.
+ *     lampughjata_next_field(0, 8, 4, 16, 8, 2, 1, 0) == 4
+ *     lampughjata_next_field(0, 8, 4, 16, 8, 2, 1, 1) == 12 */
 uint64_t lampughjata_next_field(uint32_t memory, uint32_t size32, uint32_t align32, uint32_t size64,
     uint32_t align64, uint32_t flat, uint32_t end, uint32_t k);
+
+/* The info of so many flags, or of an enum of so many cases: k = 0 to 4.
+ *     lampughjata_flags(9, 0) == 2
+ *     lampughjata_flags(33, 0) == 5 * REFUSED
+ *     lampughjata_enum(257, 0) == 2 */
 uint64_t lampughjata_flags(uint32_t count, uint32_t k);
 uint64_t lampughjata_enum(uint32_t count, uint32_t k);
+
+/* The info of a list of so many elements of one info.
+ *     lampughjata_fixed_length_list(8, 4, 16, 8, 2, 3, 2) == 48
+ *     lampughjata_fixed_length_list(8, 4, 16, 8, 2, 9, 4) == 255 */
 uint64_t lampughjata_fixed_length_list(uint32_t size32, uint32_t align32, uint32_t size64, uint32_t align64,
     uint32_t flat, uint32_t count, uint32_t k);
+
+/* The bytes that tell so many cases apart.
+ *     lampughjata_discriminant(65537) == 4 */
 uint64_t lampughjata_discriminant(uint32_t count);
 
-/* Five words an info, six a case: 0 for no payload or any other number for one, then its info */
+/* The info of a record of infos, five words each.
+ *     lampughjata_record(infos, 10, 0) == 12
+ *     lampughjata_record(infos, 10, 2) == 24 */
 uint64_t lampughjata_record(const uint32_t *infos, size_t infos_len, uint32_t k);
+
+/* The info of a variant of cases, six words each: 0 for no payload or any other number for one, then its info; and of k = 5 to 7
+ * the discriminant's bytes and where the payload stands.
+ *     lampughjata_variant(cases, 12, 0) == 12
+ *     lampughjata_variant(cases, 12, 7) == 8 */
 uint64_t lampughjata_variant(const uint32_t *cases, size_t cases_len, uint32_t k);
 
-/* A build, and the questions on layout */
+/* Writes the rows of a description, sixteen words each, and answers how many.
+ *     lampughjata_build(words, 5, table, 16) == 1
+ *     lampughjata_build(words, 5, NULL, 0) == 7 * REFUSED */
 uint64_t lampughjata_build(const uint32_t *words, size_t words_len, uint32_t *table, size_t table_len);
-uint64_t lampughjata_type(const uint32_t *t, size_t t_len, uint32_t n, uint32_t reference, uint32_t k);
-uint64_t lampughjata_size_align(uint32_t memory, const uint32_t *t, size_t t_len, uint32_t n,
+
+/* One number of a type: k = 0 to 4 its info, 5 and 6 its core types, 7 whether it holds a Borrow.
+ *     lampughjata_type(table, 16, 1, 64, 0) == 16
+ *     lampughjata_type(table, 16, 1, 64, 6) == 0x14
+ *     lampughjata_type(table, 16, 1, 65, 0) == 4 * REFUSED */
+uint64_t lampughjata_type(const uint32_t *table, size_t table_len, uint32_t rows, uint32_t reference, uint32_t k);
+
+/* Size and alignment of a type in a 64-bit memory (1).
+ *     lampughjata_size_align(1, table, 16, 1, 64) == 32 + 8 * ALIGN */
+uint64_t lampughjata_size_align(uint32_t memory, const uint32_t *table, size_t table_len, uint32_t rows,
     uint32_t reference);
-uint64_t lampughjata_placement(uint32_t memory, const uint32_t *t, size_t t_len, uint32_t n,
-    const uint32_t *references, size_t references_len, uint32_t *out, size_t out_len);
 
-/* Flattening and signatures */
-uint64_t lampughjata_flatten(uint32_t memory, uint32_t max, const uint32_t *t, size_t t_len, uint32_t n,
-    const uint32_t *references, size_t references_len);
-uint64_t lampughjata_lowering(uint32_t memory, uint32_t async, const uint32_t *t, size_t t_len, uint32_t n,
-    const uint32_t *references, size_t references_len);
-uint64_t lampughjata_lifting(uint32_t memory, uint32_t async, const uint32_t *t, size_t t_len, uint32_t n,
-    const uint32_t *references, size_t references_len);
-uint64_t lampughjata_async_start_params(uint32_t lower_memory, uint32_t lower_async, uint32_t lift_memory,
-    const uint32_t *t, size_t t_len, uint32_t n, const uint32_t *lower, size_t lower_len,
-    const uint32_t *lift, size_t lift_len);
-uint64_t lampughjata_async_start_results(uint32_t lower_memory, uint32_t lower_async, uint32_t lift_memory,
-    const uint32_t *t, size_t t_len, uint32_t n, const uint32_t *lower, size_t lower_len,
-    const uint32_t *lift, size_t lift_len);
-uint64_t lampughjata_async_return_params(uint32_t lift_memory, uint32_t lift_async, uint32_t lower_memory,
-    uint32_t lower_async, const uint32_t *t, size_t t_len, uint32_t n, const uint32_t *lift, size_t lift_len,
-    const uint32_t *lower, size_t lower_len);
-uint64_t lampughjata_async_return_results(uint32_t lift_memory, uint32_t lift_async, uint32_t lower_memory,
-    uint32_t lower_async, const uint32_t *t, size_t t_len, uint32_t n, const uint32_t *lift, size_t lift_len,
-    const uint32_t *lower, size_t lower_len);
-uint64_t lampughjata_contains_borrow(const uint32_t *t, size_t t_len, uint32_t n, const uint32_t *references,
-    size_t references_len);
+/* Places members one after the other: writes their offsets, answers size and alignment.
+ *     lampughjata_placement(1, table, 16, 1, members, 3, offsets, 3) == 32 + 8 * ALIGN
+ *     offsets[1] == 8
+ *     offsets[2] == 24 */
+uint64_t lampughjata_placement(uint32_t memory, const uint32_t *table, size_t table_len, uint32_t rows,
+    const uint32_t *references, size_t references_len, uint32_t *offsets, size_t offsets_len);
 
-/* The same over little-endian bytes */
+/* The core types of values that travel together, two bits each, or that they go through memory.
+ *     lampughjata_flatten(1, 16, table, 16, 1, record, 1) == 0x14 + 4 * COUNT
+ *     lampughjata_flatten(1, 3, table, 16, 1, record, 1) == MEMORY */
+uint64_t lampughjata_flatten(uint32_t memory, uint32_t max, const uint32_t *table, size_t table_len, uint32_t rows,
+    const uint32_t *references, size_t references_len);
+
+/* The results of a function that is lowered, and of one that is lifted; here async (1).
+ *     lampughjata_lowering(1, 1, table, 16, 1, record, 1) == MEMORY
+ *     lampughjata_lifting(1, 1, table, 16, 1, record, 1) == 0x14 + 4 * COUNT */
+uint64_t lampughjata_lowering(uint32_t memory, uint32_t asynchronous, const uint32_t *table, size_t table_len,
+    uint32_t rows, const uint32_t *references, size_t references_len);
+uint64_t lampughjata_lifting(uint32_t memory, uint32_t asynchronous, const uint32_t *table, size_t table_len,
+    uint32_t rows, const uint32_t *references, size_t references_len);
+
+/* The core function that hands the parameters of an async call over: k = 0 its parameters, 1 its results.
+ *     lampughjata_async_start(0, 1, 1, table, 16, 1, record, 1, record, 1, 0) == 4 * COUNT
+ *     lampughjata_async_start(0, 1, 1, table, 16, 1, record, 1, record, 1, 1) == 0x14 + 4 * COUNT */
+uint64_t lampughjata_async_start(uint32_t lower_memory, uint32_t lower_async, uint32_t lift_memory,
+    const uint32_t *table, size_t table_len, uint32_t rows, const uint32_t *lower, size_t lower_len,
+    const uint32_t *lift, size_t lift_len, uint32_t k);
+
+/* The core function that hands its results back: k = 0 its parameters, 1 its results.
+ *     lampughjata_async_return(1, 1, 0, 1, table, 16, 1, record, 1, record, 1, 0) == 0x114 + 5 * COUNT
+ *     lampughjata_async_return(1, 1, 0, 1, table, 16, 1, record, 1, record, 1, 1) == 0 */
+uint64_t lampughjata_async_return(uint32_t lift_memory, uint32_t lift_async, uint32_t lower_memory,
+    uint32_t lower_async, const uint32_t *table, size_t table_len, uint32_t rows, const uint32_t *lift,
+    size_t lift_len, const uint32_t *lower, size_t lower_len, uint32_t k);
+
+/* Whether any of the types holds a Borrow (14).
+ *     lampughjata_contains_borrow(table, 16, 1, record, 1) == 0
+ *     lampughjata_contains_borrow(NULL, 0, 0, (uint32_t[]){14}, 1) == 1 */
+uint64_t lampughjata_contains_borrow(const uint32_t *table, size_t table_len, uint32_t rows,
+    const uint32_t *references, size_t references_len);
+
+/* The same over little-endian bytes, which need not be aligned.
+ *     lampughjata_record_bytes((uint8_t *)infos, 40, 0) == 12
+ *     lampughjata_variant_bytes((uint8_t *)cases, 48, 7) == 8
+ *     lampughjata_build_bytes((uint8_t *)words, 20, (uint8_t *)table, 64) == 1
+ *     lampughjata_build_bytes((uint8_t *)words, 19, (uint8_t *)table, 64) == 2 * REFUSED
+ *     lampughjata_type_bytes((uint8_t *)table, 64, 1, 64, 0) == 16
+ *     lampughjata_size_align_bytes(1, (uint8_t *)table, 64, 1, 64) == 32 + 8 * ALIGN
+ *     lampughjata_placement_bytes(0, (uint8_t *)table, 64, 1, (uint8_t *)members, 12, (uint8_t *)offsets, 12) == 16 + 4 * ALIGN
+ *     offsets[2] == 12
+ *     lampughjata_flatten_bytes(0, 16, (uint8_t *)table, 64, 1, (uint8_t *)record, 4) == 4 * COUNT
+ *     lampughjata_lowering_bytes(0, 0, (uint8_t *)table, 64, 1, (uint8_t *)record, 4) == MEMORY
+ *     lampughjata_lifting_bytes(0, 1, (uint8_t *)table, 64, 1, (uint8_t *)record, 4) == 4 * COUNT
+ *     lampughjata_async_start_bytes(0, 1, 1, (uint8_t *)table, 64, 1, (uint8_t *)record, 4, (uint8_t *)record, 4, 0) == 4 * COUNT
+ *     lampughjata_async_return_bytes(1, 1, 0, 1, (uint8_t *)table, 64, 1, (uint8_t *)record, 4, (uint8_t *)record, 4, 1) == 0
+ *     lampughjata_contains_borrow_bytes((uint8_t *)table, 64, 1, (uint8_t *)record, 4) == 0 */
 uint64_t lampughjata_record_bytes(const uint8_t *infos, size_t infos_len, uint32_t k);
 uint64_t lampughjata_variant_bytes(const uint8_t *cases, size_t cases_len, uint32_t k);
 uint64_t lampughjata_build_bytes(const uint8_t *words, size_t words_len, uint8_t *table, size_t table_len);
-uint64_t lampughjata_type_bytes(const uint8_t *t, size_t t_len, uint32_t n, uint32_t reference, uint32_t k);
-uint64_t lampughjata_size_align_bytes(uint32_t memory, const uint8_t *t, size_t t_len, uint32_t n,
+uint64_t lampughjata_type_bytes(const uint8_t *table, size_t table_len, uint32_t rows, uint32_t reference,
+    uint32_t k);
+uint64_t lampughjata_size_align_bytes(uint32_t memory, const uint8_t *table, size_t table_len, uint32_t rows,
     uint32_t reference);
-uint64_t lampughjata_placement_bytes(uint32_t memory, const uint8_t *t, size_t t_len, uint32_t n,
-    const uint8_t *references, size_t references_len, uint8_t *out, size_t out_len);
-uint64_t lampughjata_flatten_bytes(uint32_t memory, uint32_t max, const uint8_t *t, size_t t_len, uint32_t n,
-    const uint8_t *references, size_t references_len);
-uint64_t lampughjata_lowering_bytes(uint32_t memory, uint32_t async, const uint8_t *t, size_t t_len,
-    uint32_t n, const uint8_t *references, size_t references_len);
-uint64_t lampughjata_lifting_bytes(uint32_t memory, uint32_t async, const uint8_t *t, size_t t_len,
-    uint32_t n, const uint8_t *references, size_t references_len);
-uint64_t lampughjata_async_start_params_bytes(uint32_t lower_memory, uint32_t lower_async,
-    uint32_t lift_memory, const uint8_t *t, size_t t_len, uint32_t n, const uint8_t *lower, size_t lower_len,
-    const uint8_t *lift, size_t lift_len);
-uint64_t lampughjata_async_start_results_bytes(uint32_t lower_memory, uint32_t lower_async,
-    uint32_t lift_memory, const uint8_t *t, size_t t_len, uint32_t n, const uint8_t *lower, size_t lower_len,
-    const uint8_t *lift, size_t lift_len);
-uint64_t lampughjata_async_return_params_bytes(uint32_t lift_memory, uint32_t lift_async,
-    uint32_t lower_memory, uint32_t lower_async, const uint8_t *t, size_t t_len, uint32_t n,
-    const uint8_t *lift, size_t lift_len, const uint8_t *lower, size_t lower_len);
-uint64_t lampughjata_async_return_results_bytes(uint32_t lift_memory, uint32_t lift_async,
-    uint32_t lower_memory, uint32_t lower_async, const uint8_t *t, size_t t_len, uint32_t n,
-    const uint8_t *lift, size_t lift_len, const uint8_t *lower, size_t lower_len);
-uint64_t lampughjata_contains_borrow_bytes(const uint8_t *t, size_t t_len, uint32_t n,
+uint64_t lampughjata_placement_bytes(uint32_t memory, const uint8_t *table, size_t table_len, uint32_t rows,
+    const uint8_t *references, size_t references_len, uint8_t *offsets, size_t offsets_len);
+uint64_t lampughjata_flatten_bytes(uint32_t memory, uint32_t max, const uint8_t *table, size_t table_len,
+    uint32_t rows, const uint8_t *references, size_t references_len);
+uint64_t lampughjata_lowering_bytes(uint32_t memory, uint32_t asynchronous, const uint8_t *table,
+    size_t table_len, uint32_t rows, const uint8_t *references, size_t references_len);
+uint64_t lampughjata_lifting_bytes(uint32_t memory, uint32_t asynchronous, const uint8_t *table,
+    size_t table_len, uint32_t rows, const uint8_t *references, size_t references_len);
+uint64_t lampughjata_async_start_bytes(uint32_t lower_memory, uint32_t lower_async, uint32_t lift_memory,
+    const uint8_t *table, size_t table_len, uint32_t rows, const uint8_t *lower, size_t lower_len,
+    const uint8_t *lift, size_t lift_len, uint32_t k);
+uint64_t lampughjata_async_return_bytes(uint32_t lift_memory, uint32_t lift_async, uint32_t lower_memory,
+    uint32_t lower_async, const uint8_t *table, size_t table_len, uint32_t rows, const uint8_t *lift,
+    size_t lift_len, const uint8_t *lower, size_t lower_len, uint32_t k);
+uint64_t lampughjata_contains_borrow_bytes(const uint8_t *table, size_t table_len, uint32_t rows,
     const uint8_t *references, size_t references_len);
 
 #ifdef __cplusplus

@@ -1,52 +1,54 @@
-//! Links the port's static library: the libhost.a of the folder that HOST_LIBRARY names, else the one
-//! that the project's `tests/host/library` makes.
+//! Links the port's static library, liblampughjata.a: that of the folder that LAMPUGHJATA_LIB names, else that of
+//! `../lib`, where a release has it, else the one that the project's `tests/host/library` makes.
 use std::env;
 use std::path::{Path, PathBuf};
 use std::process::{Command, Stdio};
 
+const LIBRARY: &str = "liblampughjata.a";
+
 fn main() {
-    println!("cargo::rerun-if-env-changed=HOST_LIBRARY");
-    println!("cargo::rerun-if-env-changed=LIBHOST");
+    println!("cargo::rerun-if-env-changed=LAMPUGHJATA_LIB");
     match folder() {
         Ok(folder) => {
-            println!(
-                "cargo::rerun-if-changed={}",
-                folder.join("libhost.a").display()
-            );
+            let library = folder.join(LIBRARY);
+            println!("cargo::rerun-if-changed={}", library.display());
             println!("cargo::rustc-link-search=native={}", folder.display());
-            println!("cargo::rustc-link-lib=static=host");
+            println!("cargo::rustc-link-lib=static=lampughjata");
         }
         Err(wrong) => println!("cargo::error={wrong}"),
     }
 }
 
-/// The folder of libhost.a.
 fn folder() -> Result<PathBuf, String> {
-    if let Some(folder) = given("HOST_LIBRARY") {
-        if folder.join("libhost.a").is_file() {
-            return Ok(folder);
-        }
-        return Err(format!(
-            "HOST_LIBRARY names {} (from the crate's folder), where there is no libhost.a",
-            folder.display()
-        ));
+    let here = Path::new(env!("CARGO_MANIFEST_DIR"));
+    if let Some(folder) = given() {
+        return match folder.join(LIBRARY).is_file() {
+            true => Ok(folder),
+            false => Err(format!(
+                "LAMPUGHJATA_LIB names {} (from the crate's folder), where there is no {LIBRARY}",
+                folder.display()
+            )),
+        };
     }
 
-    // `tests/host/library` takes the archive of LIBHOST if there is one; else it makes an archive that
-    // only an x86-64 program can link.
+    // Both archives are for x86-64.
     let processor = env::var("CARGO_CFG_TARGET_ARCH").unwrap_or_default();
-    if processor != "x86_64" && given("LIBHOST").is_none() {
+    if processor != "x86_64" {
         return Err(format!(
             "the static library is for x86-64 and this is {processor}; to try the crate here all \
-             the same, set HOST_LIBRARY to the folder that tests/host/library --native prints"
+             the same, set LAMPUGHJATA_LIB to the folder that tests/host/library --native prints"
         ));
     }
-    made_by(&Path::new(env!("CARGO_MANIFEST_DIR")).join("../.."))
+    let released = here.join("../lib");
+    match released.join(LIBRARY).is_file() {
+        true => Ok(released),
+        false => made_by(&here.join("../..")),
+    }
 }
 
-/// The folder that a variable of the environment names.
-fn given(variable: &str) -> Option<PathBuf> {
-    let folder = env::var_os(variable).filter(|folder| !folder.is_empty());
+/// The folder that the environment names.
+fn given() -> Option<PathBuf> {
+    let folder = env::var_os("LAMPUGHJATA_LIB").filter(|folder| !folder.is_empty());
     folder.map(PathBuf::from)
 }
 
@@ -66,7 +68,7 @@ fn made_by(root: &Path) -> Result<PathBuf, String> {
         Err(error) => format!("cannot be run: {error}"),
     };
     Err(format!(
-        "HOST_LIBRARY is not set, and {} {wrong}",
+        "LAMPUGHJATA_LIB is not set, there is no ../lib, and {} {wrong}",
         script.display()
     ))
 }

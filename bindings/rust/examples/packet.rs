@@ -27,11 +27,8 @@ fn main() -> Result<(), Refused> {
     // The same record stands differently in the two memories: strings and lists hold pointers.
     for memory in [Memory::Memory32, Memory::Memory64] {
         let mut offsets = [0; 7];
-        let layout = table.placement(memory, &types, &mut offsets)?;
-        println!(
-            "{memory:?}: {} bytes, aligned to {}",
-            layout.size, layout.align
-        );
+        let placed = table.placement(memory, &types, &mut offsets)?;
+        println!("{memory:?}: {placed}");
         for ((name, _), offset) in members.iter().zip(offsets) {
             println!("{offset:6}  {name}");
         }

@@ -1,7 +1,7 @@
 //! The one u64 that answers each call: the refusal's number in the top byte and its place in the low 32
 //! bits, else a value below bit 56.
 use crate::core_types::{CoreTypes, Flattened};
-use crate::{Layout, Place, Refusal, Refused, Result};
+use crate::{Layout, Place, Placement, Refusal, Refused, Result};
 
 /// The value, or the refusal at the place that the low 32 bits give.
 pub fn value(answer: u64, place: fn(u32) -> Place) -> Result<u64> {
@@ -27,6 +27,21 @@ pub fn layout(value: u64) -> Layout {
     }
 }
 
+/// A placement's bits are its own, though today they are those of a layout.
+pub fn placement(value: u64) -> Placement {
+    let Layout { size, align } = layout(value);
+    Placement { size, align }
+}
+
+/// A flat count: none is 255.
+pub fn flat_count(value: u64) -> Option<u8> {
+    match value {
+        0..=16 => Some(value as u8),
+        255 => None,
+        _ => foreign(value),
+    }
+}
+
 /// The types in bits 0 to 33, two bits each, and their count in bits 40 to 47.
 pub fn list(value: u64) -> CoreTypes {
     let count = (value >> 40) as u8;
@@ -44,6 +59,7 @@ pub fn flattened(value: u64) -> Flattened {
 /// An answer that the port is proved never to give.
 pub fn foreign(answer: u64) -> ! {
     panic!(
-        "libhost.a answered {answer:#x}, so it is not the library that this crate is written for"
+        "liblampughjata.a answered {answer:#x}, so it is not the library that this crate is \
+         written for"
     )
 }

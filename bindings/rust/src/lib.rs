@@ -7,7 +7,8 @@
 //! their types. It copies nothing: tables, references and offsets are lent to the library as they are.
 //!
 //! A description lists definitions in u32 words ([`Description`] writes it), a [`Table`] has one row for
-//! each, and every question is put to a table.
+//! each, and every question is put to a table. The leaves and the calls over bytes have no types of their own here:
+//! they are in [`raw`], as C has them.
 //!
 //! ```
 //! use lampughjata::{Description, Layout, Memory, Reference, Table};
@@ -24,14 +25,16 @@
 #![warn(missing_debug_implementations)]
 
 mod answer;
+#[allow(unsafe_code)]
+mod calls;
 mod core_types;
 mod description;
 #[allow(unsafe_code)]
-mod raw;
+pub mod raw;
 mod refusal;
 mod table;
 
 pub use core_types::{CoreType, CoreTypes, Flattened, Signature};
 pub use description::{Description, Reference};
 pub use refusal::{Place, Refusal, Refused, Result};
-pub use table::{Calling, Info, Layout, Memory, Side, Table};
+pub use table::{Calling, Info, Layout, Memory, Placement, Side, Table};

@@ -1,339 +1,170 @@
-//! The calls of the static library, each with a safe function over slices. All of the crate's unsafe
-//! code is here.
+//! The calls of the static library, as `lampughjata.h` declares them, and nothing else: the project's comparison
+//! and its timings take their declarations from this file too. `tests/header.rs` holds it to the header.
 //!
-//! Above each declaration stands the C header's; `tests/header.rs` holds both to `lampughjata.h`. A slice
-//! passes as a pointer and then its length in elements.
-//!
-//! Why the functions are safe: the library is proved to return for every number, word and length given
-//! to it, to read only the slices it is lent and to write only the mutable one. What is left to this
-//! module is that each pointer comes with the length of its own slice, and that a mutable slice is lent
-//! to nobody else, which Rust's references see to.
-use crate::Reference;
+//! A slice passes as a pointer and then its length in elements, everything else as a number. Each call is safe for
+//! every number, word and length: the library is proved to return, to read only the slices that it is lent and to
+//! write only the mutable ones. Left to the caller is that each pointer has so many elements behind it, and that a
+//! mutable slice is lent to nobody else.
 
 unsafe extern "C" {
-    // uint64_t lampughjata_build(const uint32_t *words, size_t words_len, uint32_t *table,
-    //                            size_t table_len);
-    fn lampughjata_build(
-        words: *const u32,
-        words_len: usize,
-        table: *mut u32,
-        table_len: usize,
-    ) -> u64;
-
-    // uint64_t lampughjata_type(const uint32_t *t, size_t t_len, uint32_t n, uint32_t reference,
-    //                           uint32_t k);
-    fn lampughjata_type(t: *const u32, t_len: usize, n: u32, reference: u32, k: u32) -> u64;
-
-    // uint64_t lampughjata_size_align(uint32_t memory, const uint32_t *t, size_t t_len, uint32_t n,
-    //                                 uint32_t reference);
-    fn lampughjata_size_align(
+    pub safe fn lampughjata_align_to(place: u32, align: u32) -> u64;
+    pub safe fn lampughjata_max(a: u32, b: u32) -> u64;
+    pub safe fn lampughjata_add_flat(a: u32, b: u32) -> u64;
+    pub safe fn lampughjata_max_flat(a: u32, b: u32) -> u64;
+    pub safe fn lampughjata_next_field(
         memory: u32,
-        t: *const u32,
-        t_len: usize,
-        n: u32,
-        reference: u32,
+        size32: u32,
+        align32: u32,
+        size64: u32,
+        align64: u32,
+        flat: u32,
+        end: u32,
+        k: u32,
     ) -> u64;
-
-    // uint64_t lampughjata_placement(uint32_t memory, const uint32_t *t, size_t t_len, uint32_t n,
-    //                                const uint32_t *references, size_t references_len,
-    //                                uint32_t *out, size_t out_len);
-    fn lampughjata_placement(
-        memory: u32,
-        t: *const u32,
-        t_len: usize,
-        n: u32,
-        references: *const u32,
-        references_len: usize,
-        out: *mut u32,
-        out_len: usize,
+    pub safe fn lampughjata_flags(count: u32, k: u32) -> u64;
+    pub safe fn lampughjata_enum(count: u32, k: u32) -> u64;
+    pub safe fn lampughjata_fixed_length_list(
+        size32: u32,
+        align32: u32,
+        size64: u32,
+        align64: u32,
+        flat: u32,
+        count: u32,
+        k: u32,
     ) -> u64;
-
-    // uint64_t lampughjata_flatten(uint32_t memory, uint32_t max, const uint32_t *t, size_t t_len,
-    //                              uint32_t n, const uint32_t *references, size_t references_len);
-    fn lampughjata_flatten(
-        memory: u32,
-        max: u32,
-        t: *const u32,
-        t_len: usize,
-        n: u32,
-        references: *const u32,
-        references_len: usize,
-    ) -> u64;
-
-    // uint64_t lampughjata_lowering(uint32_t memory, uint32_t async_, const uint32_t *t,
-    //                               size_t t_len, uint32_t n, const uint32_t *references,
-    //                               size_t references_len);
-    fn lampughjata_lowering(
-        memory: u32,
-        async_: u32,
-        t: *const u32,
-        t_len: usize,
-        n: u32,
-        references: *const u32,
-        references_len: usize,
-    ) -> u64;
-
-    // uint64_t lampughjata_lifting(uint32_t memory, uint32_t async_, const uint32_t *t,
-    //                              size_t t_len, uint32_t n, const uint32_t *references,
-    //                              size_t references_len);
-    fn lampughjata_lifting(
-        memory: u32,
-        async_: u32,
-        t: *const u32,
-        t_len: usize,
-        n: u32,
-        references: *const u32,
-        references_len: usize,
-    ) -> u64;
-
-    // uint64_t lampughjata_async_start_params(uint32_t lower_memory, uint32_t lower_async,
-    //                                         uint32_t lift_memory, const uint32_t *t,
-    //                                         size_t t_len, uint32_t n, const uint32_t *lower,
-    //                                         size_t lower_len, const uint32_t *lift,
-    //                                         size_t lift_len);
-    fn lampughjata_async_start_params(
-        lower_memory: u32,
-        lower_async: u32,
-        lift_memory: u32,
-        t: *const u32,
-        t_len: usize,
-        n: u32,
-        lower: *const u32,
-        lower_len: usize,
-        lift: *const u32,
-        lift_len: usize,
-    ) -> u64;
-
-    // uint64_t lampughjata_async_start_results(uint32_t lower_memory, uint32_t lower_async,
-    //                                          uint32_t lift_memory, const uint32_t *t,
-    //                                          size_t t_len, uint32_t n, const uint32_t *lower,
-    //                                          size_t lower_len, const uint32_t *lift,
-    //                                          size_t lift_len);
-    fn lampughjata_async_start_results(
-        lower_memory: u32,
-        lower_async: u32,
-        lift_memory: u32,
-        t: *const u32,
-        t_len: usize,
-        n: u32,
-        lower: *const u32,
-        lower_len: usize,
-        lift: *const u32,
-        lift_len: usize,
-    ) -> u64;
-
-    // uint64_t lampughjata_async_return_params(uint32_t lift_memory, uint32_t lift_async,
-    //                                          uint32_t lower_memory, uint32_t lower_async,
-    //                                          const uint32_t *t, size_t t_len, uint32_t n,
-    //                                          const uint32_t *lift, size_t lift_len,
-    //                                          const uint32_t *lower, size_t lower_len);
-    fn lampughjata_async_return_params(
-        lift_memory: u32,
-        lift_async: u32,
-        lower_memory: u32,
-        lower_async: u32,
-        t: *const u32,
-        t_len: usize,
-        n: u32,
-        lift: *const u32,
-        lift_len: usize,
-        lower: *const u32,
-        lower_len: usize,
-    ) -> u64;
-
-    // uint64_t lampughjata_async_return_results(uint32_t lift_memory, uint32_t lift_async,
-    //                                           uint32_t lower_memory, uint32_t lower_async,
-    //                                           const uint32_t *t, size_t t_len, uint32_t n,
-    //                                           const uint32_t *lift, size_t lift_len,
-    //                                           const uint32_t *lower, size_t lower_len);
-    fn lampughjata_async_return_results(
-        lift_memory: u32,
-        lift_async: u32,
-        lower_memory: u32,
-        lower_async: u32,
-        t: *const u32,
-        t_len: usize,
-        n: u32,
-        lift: *const u32,
-        lift_len: usize,
-        lower: *const u32,
-        lower_len: usize,
-    ) -> u64;
-
-    // uint64_t lampughjata_contains_borrow(const uint32_t *t, size_t t_len, uint32_t n,
-    //                                      const uint32_t *references, size_t references_len);
-    fn lampughjata_contains_borrow(
-        t: *const u32,
-        t_len: usize,
-        n: u32,
-        references: *const u32,
-        references_len: usize,
-    ) -> u64;
+    pub safe fn lampughjata_discriminant(count: u32) -> u64;
 }
 
-/// A table's words and the number of its rows, as every question takes them.
-#[derive(Clone, Copy)]
-pub struct Rows<'a> {
-    pub words: &'a [u32],
-    pub count: u32,
-}
+/// Declares the calls over lent memory: over words, or their twins over bytes.
+macro_rules! declare_over {
+    ($unit:ty, $suffix:literal) => {
+        unsafe extern "C" {
+            #[link_name = concat!("lampughjata_record", $suffix)]
+            pub fn record(infos: *const $unit, infos_len: usize, k: u32) -> u64;
 
-/// A side of a call between two components, in the library's numbers.
-#[derive(Clone, Copy)]
-pub struct RawSide<'a> {
-    pub memory: u32,
-    pub asynchronous: u32,
-    pub types: &'a [Reference],
-}
+            #[link_name = concat!("lampughjata_variant", $suffix)]
+            pub fn variant(cases: *const $unit, cases_len: usize, k: u32) -> u64;
 
-/// The references as the words they are: `Reference` is a transparent struct of one u32.
-fn words(references: &[Reference]) -> *const u32 {
-    references.as_ptr().cast()
-}
+            #[link_name = concat!("lampughjata_build", $suffix)]
+            pub fn build(
+                words: *const $unit,
+                words_len: usize,
+                table: *mut $unit,
+                table_len: usize,
+            ) -> u64;
 
-pub fn build(description: &[u32], table: &mut [u32]) -> u64 {
-    // SAFETY: both pointers with the lengths of their slices; the table is lent to nobody else.
-    unsafe {
-        lampughjata_build(
-            description.as_ptr(),
-            description.len(),
-            table.as_mut_ptr(),
-            table.len(),
-        )
-    }
-}
+            #[link_name = concat!("lampughjata_type", $suffix)]
+            pub fn type_of(
+                table: *const $unit,
+                table_len: usize,
+                rows: u32,
+                reference: u32,
+                k: u32,
+            ) -> u64;
 
-pub fn type_of(t: Rows, Reference(reference): Reference, k: u32) -> u64 {
-    // SAFETY: the pointer with the length of its slice, which is only read.
-    unsafe { lampughjata_type(t.words.as_ptr(), t.words.len(), t.count, reference, k) }
-}
+            #[link_name = concat!("lampughjata_size_align", $suffix)]
+            pub fn size_align(
+                memory: u32,
+                table: *const $unit,
+                table_len: usize,
+                rows: u32,
+                reference: u32,
+            ) -> u64;
 
-pub fn size_align(memory: u32, t: Rows, Reference(reference): Reference) -> u64 {
-    // SAFETY: the pointer with the length of its slice, which is only read.
-    unsafe { lampughjata_size_align(memory, t.words.as_ptr(), t.words.len(), t.count, reference) }
-}
+            #[link_name = concat!("lampughjata_placement", $suffix)]
+            pub fn placement(
+                memory: u32,
+                table: *const $unit,
+                table_len: usize,
+                rows: u32,
+                references: *const $unit,
+                references_len: usize,
+                offsets: *mut $unit,
+                offsets_len: usize,
+            ) -> u64;
 
-pub fn placement(memory: u32, t: Rows, references: &[Reference], out: &mut [u32]) -> u64 {
-    // SAFETY: the pointers with the lengths of their slices; `out` is lent to nobody else.
-    unsafe {
-        lampughjata_placement(
-            memory,
-            t.words.as_ptr(),
-            t.words.len(),
-            t.count,
-            words(references),
-            references.len(),
-            out.as_mut_ptr(),
-            out.len(),
-        )
-    }
-}
+            #[link_name = concat!("lampughjata_flatten", $suffix)]
+            pub fn flatten(
+                memory: u32,
+                max: u32,
+                table: *const $unit,
+                table_len: usize,
+                rows: u32,
+                references: *const $unit,
+                references_len: usize,
+            ) -> u64;
 
-pub fn flatten(memory: u32, max: u32, t: Rows, references: &[Reference]) -> u64 {
-    // SAFETY: both pointers with the lengths of their slices, which are only read.
-    unsafe {
-        lampughjata_flatten(
-            memory,
-            max,
-            t.words.as_ptr(),
-            t.words.len(),
-            t.count,
-            words(references),
-            references.len(),
-        )
-    }
-}
+            #[link_name = concat!("lampughjata_lowering", $suffix)]
+            pub fn lowering(
+                memory: u32,
+                asynchronous: u32,
+                table: *const $unit,
+                table_len: usize,
+                rows: u32,
+                references: *const $unit,
+                references_len: usize,
+            ) -> u64;
 
-pub fn lowering(t: Rows, side: RawSide) -> u64 {
-    // SAFETY: both pointers with the lengths of their slices, which are only read.
-    unsafe {
-        lampughjata_lowering(
-            side.memory,
-            side.asynchronous,
-            t.words.as_ptr(),
-            t.words.len(),
-            t.count,
-            words(side.types),
-            side.types.len(),
-        )
-    }
-}
+            #[link_name = concat!("lampughjata_lifting", $suffix)]
+            pub fn lifting(
+                memory: u32,
+                asynchronous: u32,
+                table: *const $unit,
+                table_len: usize,
+                rows: u32,
+                references: *const $unit,
+                references_len: usize,
+            ) -> u64;
 
-pub fn lifting(t: Rows, side: RawSide) -> u64 {
-    // SAFETY: both pointers with the lengths of their slices, which are only read.
-    unsafe {
-        lampughjata_lifting(
-            side.memory,
-            side.asynchronous,
-            t.words.as_ptr(),
-            t.words.len(),
-            t.count,
-            words(side.types),
-            side.types.len(),
-        )
-    }
-}
+            #[link_name = concat!("lampughjata_async_start", $suffix)]
+            pub fn async_start(
+                lower_memory: u32,
+                lower_async: u32,
+                lift_memory: u32,
+                table: *const $unit,
+                table_len: usize,
+                rows: u32,
+                lower: *const $unit,
+                lower_len: usize,
+                lift: *const $unit,
+                lift_len: usize,
+                k: u32,
+            ) -> u64;
 
-/// The parameters, then the results. Whether lift is async plays no part.
-pub fn async_start(t: Rows, lower: RawSide, lift: RawSide) -> [u64; 2] {
-    [
-        lampughjata_async_start_params,
-        lampughjata_async_start_results,
-    ]
-    .map(|call| {
-        // SAFETY: the pointers with the lengths of their slices, which are only read.
-        unsafe {
-            call(
-                lower.memory,
-                lower.asynchronous,
-                lift.memory,
-                t.words.as_ptr(),
-                t.words.len(),
-                t.count,
-                words(lower.types),
-                lower.types.len(),
-                words(lift.types),
-                lift.types.len(),
-            )
+            #[link_name = concat!("lampughjata_async_return", $suffix)]
+            pub fn async_return(
+                lift_memory: u32,
+                lift_async: u32,
+                lower_memory: u32,
+                lower_async: u32,
+                table: *const $unit,
+                table_len: usize,
+                rows: u32,
+                lift: *const $unit,
+                lift_len: usize,
+                lower: *const $unit,
+                lower_len: usize,
+                k: u32,
+            ) -> u64;
+
+            #[link_name = concat!("lampughjata_contains_borrow", $suffix)]
+            pub fn contains_borrow(
+                table: *const $unit,
+                table_len: usize,
+                rows: u32,
+                references: *const $unit,
+                references_len: usize,
+            ) -> u64;
         }
-    })
+    };
 }
 
-/// The parameters, then the results.
-pub fn async_return(t: Rows, lift: RawSide, lower: RawSide) -> [u64; 2] {
-    [
-        lampughjata_async_return_params,
-        lampughjata_async_return_results,
-    ]
-    .map(|call| {
-        // SAFETY: the pointers with the lengths of their slices, which are only read.
-        unsafe {
-            call(
-                lift.memory,
-                lift.asynchronous,
-                lower.memory,
-                lower.asynchronous,
-                t.words.as_ptr(),
-                t.words.len(),
-                t.count,
-                words(lift.types),
-                lift.types.len(),
-                words(lower.types),
-                lower.types.len(),
-            )
-        }
-    })
+/// The calls that are lent words.
+pub mod words {
+    declare_over!(u32, "");
 }
 
-pub fn contains_borrow(t: Rows, references: &[Reference]) -> u64 {
-    // SAFETY: both pointers with the lengths of their slices, which are only read.
-    unsafe {
-        lampughjata_contains_borrow(
-            t.words.as_ptr(),
-            t.words.len(),
-            t.count,
-            words(references),
-            references.len(),
-        )
-    }
+/// Their twins, which are lent little-endian bytes.
+pub mod bytes {
+    declare_over!(u8, "_bytes");
 }

@@ -1,8 +1,9 @@
 //! The table of a description, and the questions put to it.
 use crate::answer;
+use crate::calls::{self, RawSide, RawTable, Results};
 use crate::core_types::{CoreTypes, Flattened, Signature};
-use crate::raw::{self, RawSide, Rows};
 use crate::{Place, Reference, Result};
+use std::fmt;
 
 /// One of the two memories, by the width of its pointers.
 #[derive(Clone, Copy, Debug, PartialEq, Eq, Hash)]
@@ -62,6 +63,19 @@ pub struct Layout {
     pub align: u32,
 }
 
+/// What a placement answers beside its offsets: bytes and alignment of the record that the members make.
+#[derive(Clone, Copy, Debug, PartialEq, Eq, Hash)]
+pub struct Placement {
+    pub size: u32,
+    pub align: u32,
+}
+
+impl fmt::Display for Placement {
+    fn fmt(&self, f: &mut fmt::Formatter) -> fmt::Result {
+        write!(f, "{} bytes, aligned to {}", self.size, self.align)
+    }
+}
+
 /// What the canonical ABI says of one type: the five numbers of wasmtime's `CanonicalAbiInfo`, its core
 /// types, and whether it holds a Borrow.
 #[derive(Clone, Copy, Debug, PartialEq, Eq, Hash)]
@@ -112,6 +126,18 @@ impl Info {
 /// 5 number of core types, 255 for none; 6 and 7 these types; 8 discriminant size; 9 and 10 offset of the
 /// payload, or of a map's value; 11 to 14 size and alignment of a map's entry twice; 15 whether it holds
 /// a Borrow.
+///
+/// The examples below are about the record (U8, String, U8), and begin with
+///
+/// ```
+/// use lampughjata::{Description, Reference, Table};
+///
+/// let mut description = Description::new();
+/// let members = [Reference::U8, Reference::STRING, Reference::U8];
+/// let named = description.record(&members);
+/// let table = Table::build(description.words())?;
+/// # Ok::<(), lampughjata::Refused>(())
+/// ```
 #[derive(Clone, Copy, Debug, PartialEq, Eq)]
 pub struct Table<W = Vec<u32>> {
     words: W,
@@ -123,15 +149,34 @@ const ROW: usize = 16;
 /// The rows that a table can have.
 const MOST_ROWS: usize = 1024;
 
+/// How many rows a buffer of so many words has room for.
+fn capacity(words: usize) -> usize {
+    (words / ROW).min(MOST_ROWS)
+}
+
+/// Where a word of a row stands in a table with room for so many rows: the one place of this crate that
+/// knows.
+fn place(_capacity: usize, row: usize, word: usize) -> usize {
+    ROW * row + word
+}
+
 impl Table {
     /// Builds the table of a description in memory of its own.
+    ///
+    /// ```
+    /// use lampughjata::Table;
+    ///
+    /// // A list of U8 (kind 3), a record of four (kind 1) and an option of that record (kind 8).
+    /// let table = Table::build(&[3, 2, 1, 4, 4, 4, 6, 64, 8, 65])?;
+    /// assert_eq!(table.rows(), 3);
+    /// # Ok::<(), lampughjata::Refused>(())
+    /// ```
     pub fn build(description: &[u32]) -> Result<Table> {
         // A definition takes at least two words, so the row of each is there: what is refused is never
         // for want of room, but at definition 1,024.
-        let rows = description.len().div_ceil(2).min(MOST_ROWS);
-        let mut words = vec![0; rows * ROW];
+        let most = description.len().div_ceil(2).min(MOST_ROWS);
+        let mut words = vec![0; most * ROW];
         let rows = build_rows(description, &mut words)?;
-        words.truncate(rows as usize * ROW);
         Ok(Table { words, rows })
     }
 }
@@ -140,6 +185,18 @@ impl<'a> Table<&'a [u32]> {
     /// Builds the table of a description in a lent buffer of sixteen words for each definition. Of a
     /// refused description the rows before the refused definition are in the buffer; all other words
     /// keep their values.
+    ///
+    /// ```
+    /// use lampughjata::{Refusal, Table};
+    ///
+    /// let mut buffer = [0; 48];
+    /// let table = Table::build_in(&[6, 9, 8, 64], &mut buffer)?;
+    /// assert_eq!(table.rows(), 2);
+    ///
+    /// let refused = Table::build_in(&[6, 9, 8, 64], &mut buffer[..16]).unwrap_err();
+    /// assert_eq!(refused.refusal, Refusal::NoRoom);
+    /// # Ok::<(), lampughjata::Refused>(())
+    /// ```
     pub fn build_in(description: &[u32], buffer: &'a mut [u32]) -> Result<Table<&'a [u32]>> {
         let rows = build_rows(description, buffer)?;
         Ok(Table {
@@ -151,18 +208,25 @@ impl<'a> Table<&'a [u32]> {
 
 /// Writes the rows and answers how many.
 fn build_rows(description: &[u32], table: &mut [u32]) -> Result<u32> {
-    let answer = raw::build(description, table);
+    let answer = calls::build(description, table);
     Ok(answer::value(answer, Place::Definition)? as u32)
 }
 
 impl<W: AsRef<[u32]>> Table<W> {
     /// The table of `rows` rows that stand in `words`, whoever wrote them. Nothing is tested here: a
     /// question answers BadRow if the words do not suffice, or if a row that it reads is not well formed.
+    ///
+    /// ```
+    /// # use lampughjata::{Reference, Refusal, Table};
+    /// let table = Table::from_words([0; 16], 1);
+    /// let refused = table.type_of(Reference::definition(0)).unwrap_err();
+    /// assert_eq!(refused.refusal, Refusal::BadRow);
+    /// ```
     pub fn from_words(words: W, rows: u32) -> Table<W> {
         Table { words, rows }
     }
 
-    /// The table's words: its rows, and in a borrowed buffer what follows them.
+    /// The table's buffer: its rows, and what else there is in it.
     pub fn words(&self) -> &[u32] {
         self.words.as_ref()
     }
@@ -172,11 +236,42 @@ impl<W: AsRef<[u32]>> Table<W> {
         self.rows
     }
 
+    /// The sixteen words of a definition's row as they stand, untested; none if there is no such row.
+    ///
+    /// ```
+    /// # use lampughjata::{Description, Reference, Table};
+    /// let mut description = Description::new();
+    /// description.option(Reference::U64);
+    /// let table = Table::build(description.words())?;
+    /// let row = table.row(0).unwrap();
+    /// assert_eq!((row[9], row[10]), (8, 8), "where the payload stands");
+    /// # Ok::<(), lampughjata::Refused>(())
+    /// ```
+    pub fn row(&self, index: u32) -> Option<[u32; 16]> {
+        let words = self.words();
+        let capacity = capacity(words.len());
+        let index = index as usize;
+        let is_there = index < capacity && index < self.rows as usize;
+        is_there.then(|| std::array::from_fn(|word| words[place(capacity, index, word)]))
+    }
+
     /// What the canonical ABI says of one type.
+    ///
+    /// ```
+    /// # use lampughjata::{Description, Reference, Table};
+    /// # let mut description = Description::new();
+    /// # let members = [Reference::U8, Reference::STRING, Reference::U8];
+    /// # let named = description.record(&members);
+    /// # let table = Table::build(description.words())?;
+    /// let info = table.type_of(named)?;
+    /// assert_eq!((info.size32, info.align32, info.flat_count), (16, 4, Some(4)));
+    /// assert_eq!(info.flat64.to_string(), "(I32, I64, I64, I32)");
+    /// assert!(!info.borrow);
+    /// # Ok::<(), lampughjata::Refused>(())
+    /// ```
     pub fn type_of(&self, reference: Reference) -> Result<Info> {
-        let number = |k| answer::asked(raw::type_of(self.raw(), reference, k));
-        // None is answered as 256.
-        let flat_count = u8::try_from(number(4)?).ok();
+        let number = |k| answer::asked(calls::type_of(self.raw(), reference, k));
+        let flat_count = answer::flat_count(number(4)?);
         let flat_types = |k| {
             let packed = number(k)?;
             let types = CoreTypes::from_packed(packed, flat_count.unwrap_or(0));
@@ -195,70 +290,159 @@ impl<W: AsRef<[u32]>> Table<W> {
     }
 
     /// Size and alignment of one type in one memory.
+    ///
+    /// ```
+    /// # use lampughjata::{Description, Layout, Memory, Reference, Table};
+    /// # let mut description = Description::new();
+    /// # let members = [Reference::U8, Reference::STRING, Reference::U8];
+    /// # let named = description.record(&members);
+    /// # let table = Table::build(description.words())?;
+    /// let layout = table.size_align(Memory::Memory64, named)?;
+    /// assert_eq!(layout, Layout { size: 32, align: 8 });
+    /// # Ok::<(), lampughjata::Refused>(())
+    /// ```
     pub fn size_align(&self, memory: Memory, reference: Reference) -> Result<Layout> {
-        let answer = raw::size_align(memory.number(), self.raw(), reference);
+        let answer = calls::size_align(memory.number(), self.raw(), reference);
         answer::asked(answer).map(answer::layout)
     }
 
     /// Places the members of a record one after the other: one offset for each in `offsets`, whose later
     /// words are kept. Answers the record's size and alignment. Nothing is written if it refuses.
+    ///
+    /// ```
+    /// # use lampughjata::{Description, Memory, Placement, Reference, Table};
+    /// # let mut description = Description::new();
+    /// # let members = [Reference::U8, Reference::STRING, Reference::U8];
+    /// # let named = description.record(&members);
+    /// # let table = Table::build(description.words())?;
+    /// let mut offsets = [0; 3];
+    /// let placed = table.placement(Memory::Memory32, &members, &mut offsets)?;
+    /// assert_eq!(offsets, [0, 4, 12]);
+    /// assert_eq!(placed, Placement { size: 16, align: 4 });
+    /// # Ok::<(), lampughjata::Refused>(())
+    /// ```
     pub fn placement(
         &self,
         memory: Memory,
         members: &[Reference],
         offsets: &mut [u32],
-    ) -> Result<Layout> {
-        let answer = raw::placement(memory.number(), self.raw(), members, offsets);
-        answer::asked(answer).map(answer::layout)
+    ) -> Result<Placement> {
+        let answer = calls::placement(memory.number(), self.raw(), members, offsets);
+        answer::asked(answer).map(answer::placement)
     }
 
     /// The core types of values that travel together, if these are not more than `max`, which is at
     /// most 16.
+    ///
+    /// ```
+    /// # use lampughjata::{Description, Memory, Reference, Table};
+    /// # let mut description = Description::new();
+    /// # let members = [Reference::U8, Reference::STRING, Reference::U8];
+    /// # let named = description.record(&members);
+    /// # let table = Table::build(description.words())?;
+    /// let types = [named, Reference::FLOAT64];
+    /// let flat = table.flatten(Memory::Memory32, 16, &types)?;
+    /// assert_eq!(flat.to_string(), "(I32, I32, I32, I32, F64)");
+    /// assert_eq!(table.flatten(Memory::Memory32, 4, &types)?.to_string(), "through memory");
+    /// # Ok::<(), lampughjata::Refused>(())
+    /// ```
     pub fn flatten(&self, memory: Memory, max: u32, types: &[Reference]) -> Result<Flattened> {
-        let answer = raw::flatten(memory.number(), max, self.raw(), types);
+        let answer = calls::flatten(memory.number(), max, self.raw(), types);
         answer::asked(answer).map(answer::flattened)
     }
 
     /// The results of a function that is lowered: at most one core type, none if it is async.
+    ///
+    /// ```
+    /// # use lampughjata::{Calling, Memory, Reference, Side, Table};
+    /// let table = Table::build(&[])?;
+    /// let types = &[Reference::U32][..];
+    /// let side = |calling| Side { memory: Memory::Memory32, calling, types };
+    /// assert_eq!(table.lowering(side(Calling::Sync))?.to_string(), "(I32)");
+    /// assert_eq!(table.lowering(side(Calling::Async))?.to_string(), "through memory");
+    /// # Ok::<(), lampughjata::Refused>(())
+    /// ```
     pub fn lowering(&self, side: Side) -> Result<Flattened> {
-        answer::asked(raw::lowering(self.raw(), side.raw())).map(answer::flattened)
+        self.results(Results::Lowering, side)
     }
 
     /// The results of a function that is lifted: at most one core type, sixteen if it is async.
+    ///
+    /// ```
+    /// # use lampughjata::{Calling, Memory, Reference, Side, Table};
+    /// let table = Table::build(&[])?;
+    /// let types = &[Reference::STRING][..];
+    /// let side = |calling| Side { memory: Memory::Memory64, calling, types };
+    /// assert_eq!(table.lifting(side(Calling::Sync))?.to_string(), "through memory");
+    /// assert_eq!(table.lifting(side(Calling::Async))?.to_string(), "(I64, I64)");
+    /// # Ok::<(), lampughjata::Refused>(())
+    /// ```
     pub fn lifting(&self, side: Side) -> Result<Flattened> {
-        answer::asked(raw::lifting(self.raw(), side.raw())).map(answer::flattened)
+        self.results(Results::Lifting, side)
+    }
+
+    fn results(&self, which: Results, side: Side) -> Result<Flattened> {
+        answer::asked(calls::results(which, self.raw(), side.raw())).map(answer::flattened)
     }
 
     /// The core function that hands the parameters of an async call from the lower side to the lift side.
     /// The types are the parameters'; whether lift is async plays no part.
+    ///
+    /// ```
+    /// # use lampughjata::{Calling, Memory, Reference, Side, Table};
+    /// let table = Table::build(&[])?;
+    /// let side = |memory| Side { memory, calling: Calling::Async, types: &[Reference::STRING] };
+    /// let start = table.async_start(side(Memory::Memory32), side(Memory::Memory64))?;
+    /// assert_eq!(start.to_string(), "(I32, I32) -> (I64, I64)");
+    /// # Ok::<(), lampughjata::Refused>(())
+    /// ```
     pub fn async_start(&self, lower: Side, lift: Side) -> Result<Signature> {
-        signature(raw::async_start(self.raw(), lower.raw(), lift.raw()))
+        signature(|k| calls::async_start(self.raw(), lower.raw(), lift.raw(), k))
     }
 
     /// The core function that hands the results of an async call from the lift side to the lower side.
     /// The types are the results'.
+    ///
+    /// ```
+    /// # use lampughjata::{Calling, Memory, Reference, Side, Table};
+    /// let table = Table::build(&[])?;
+    /// let side = |memory| Side { memory, calling: Calling::Async, types: &[Reference::U32] };
+    /// let back = table.async_return(side(Memory::Memory64), side(Memory::Memory32))?;
+    /// assert_eq!(back.to_string(), "(I32, I64) -> ()");
+    /// # Ok::<(), lampughjata::Refused>(())
+    /// ```
     pub fn async_return(&self, lift: Side, lower: Side) -> Result<Signature> {
-        signature(raw::async_return(self.raw(), lift.raw(), lower.raw()))
+        signature(|k| calls::async_return(self.raw(), lift.raw(), lower.raw(), k))
     }
 
     /// Whether any of the types holds a Borrow.
+    ///
+    /// ```
+    /// # use lampughjata::{Description, Reference, Table};
+    /// let mut description = Description::new();
+    /// let handles = description.list(Reference::BORROW);
+    /// let table = Table::build(description.words())?;
+    /// assert!(table.contains_borrow(&[Reference::U8, handles])?);
+    /// # Ok::<(), lampughjata::Refused>(())
+    /// ```
     pub fn contains_borrow(&self, types: &[Reference]) -> Result<bool> {
-        let answer = raw::contains_borrow(self.raw(), types);
+        let answer = calls::contains_borrow(self.raw(), types);
         Ok(answer::asked(answer)? != 0)
     }
 
-    fn raw(&self) -> Rows<'_> {
-        Rows {
+    fn raw(&self) -> RawTable<'_> {
+        RawTable {
             words: self.words.as_ref(),
-            count: self.rows,
+            rows: self.rows,
         }
     }
 }
 
-/// Of the answers for parameters and results.
-fn signature([params, results]: [u64; 2]) -> Result<Signature> {
+/// Of a call that answers the parameters for 0 and the results for 1.
+fn signature(call: impl Fn(u32) -> u64) -> Result<Signature> {
+    let list = |k| answer::asked(call(k)).map(answer::list);
     Ok(Signature {
-        params: answer::list(answer::asked(params)?),
-        results: answer::list(answer::asked(results)?),
+        params: list(0)?,
+        results: list(1)?,
     })
 }

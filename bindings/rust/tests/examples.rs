@@ -1,7 +1,7 @@
 //! The examples of the scope document, through the crate.
 use lampughjata::{
-    Calling, CoreType, Description, Info, Layout, Memory, Place, Reference, Refusal, Refused, Side,
-    Table,
+    Calling, CoreType, Description, Info, Layout, Memory, Place, Placement, Reference, Refusal,
+    Refused, Side, Table,
 };
 
 const MEMORIES: [Memory; 2] = [Memory::Memory32, Memory::Memory64];
@@ -32,15 +32,15 @@ fn flat_types(info: &Info, memory: Memory) -> String {
 fn payload_offsets(define: impl FnOnce(&mut Description) -> Reference) -> [u32; 2] {
     let mut description = Description::new();
     define(&mut description);
-    let table = Table::build(description.words()).unwrap();
-    [table.words()[9], table.words()[10]]
+    let row = Table::build(description.words()).unwrap().row(0).unwrap();
+    [row[9], row[10]]
 }
 
 /// Where a record's members stand, and its size and alignment.
 fn placed<const N: usize>(memory: Memory, members: [Reference; N]) -> ([u32; N], u32, u32) {
     let table = Table::build(&[]).unwrap();
     let mut offsets = [0; N];
-    let Layout { size, align } = table.placement(memory, &members, &mut offsets).unwrap();
+    let Placement { size, align } = table.placement(memory, &members, &mut offsets).unwrap();
     (offsets, size, align)
 }
 

@@ -5,17 +5,20 @@ use std::collections::BTreeMap;
 const HEADER: &str = include_str!("../../c/lampughjata.h");
 const RAW: &str = include_str!("../src/raw.rs");
 
-/// The types of each call's parameters, by the call's name.
+/// The types of each call's parameters, in C, by the call's name.
 type Calls = BTreeMap<String, Vec<String>>;
 
-/// The declarations that start with `start`, parameters taken apart by `parameter`.
-fn calls(text: &str, start: &str, parameter: fn(&str) -> String) -> Calls {
-    let text = text.replace("//", " ");
+/// The declarations of `text` that begin with `start` and then the rest of a call's name.
+fn calls(text: &str, start: &str, parameter: impl Fn(&str) -> String) -> Calls {
     let declared = text.split(start).skip(1).map(|rest| {
-        let (name, rest) = rest.split_once('(').expect("an opening parenthesis");
+        let end = rest.find(|c: char| !c.is_alphanumeric() && c != '_');
+        let (name, rest) = rest.split_at(end.expect("an end of the name"));
+        // In the macro the link name stands before the function, and its parenthesis closes there.
+        let (_, rest) = rest.split_once("fn ").unwrap_or(("", rest));
+        let (_, rest) = rest.split_once('(').expect("an opening parenthesis");
         let (parameters, _) = rest.split_once(')').expect("a closing parenthesis");
         let parameters = parameters.split(',').map(str::trim);
-        let types = parameters.filter(|p| !p.is_empty()).map(parameter);
+        let types = parameters.filter(|p| !p.is_empty()).map(&parameter);
         (format!("lampughjata_{name}"), types.collect())
     });
     declared.collect()
@@ -28,27 +31,32 @@ fn c_type(parameter: &str) -> String {
     spaced.split_whitespace().collect::<Vec<_>>().join(" ")
 }
 
-/// `words: *const u32` is a `const uint32_t *`.
-fn rust_type(parameter: &str) -> String {
+/// `words: *const $unit` is a `const uint8_t *` over bytes.
+fn rust_type(parameter: &str, unit: &str) -> String {
     let (_, rust) = parameter.split_once(": ").expect("a name and a type");
-    let c = match rust {
-        "u32" => "uint32_t",
-        "usize" => "size_t",
-        "*const u32" => "const uint32_t *",
-        "*mut u32" => "uint32_t *",
+    match rust {
+        "u32" => "uint32_t".to_string(),
+        "usize" => "size_t".to_string(),
+        "*const $unit" => format!("const {unit} *"),
+        "*mut $unit" => format!("{unit} *"),
         other => panic!("{other} has no C type here"),
-    };
-    c.to_string()
+    }
+}
+
+/// What `raw.rs` declares: calls over numbers, and those of the macro over words and over bytes.
+fn declared() -> Calls {
+    let (numbers, lent) = RAW.split_once("macro_rules!").expect("a macro");
+    let mut declared = calls(numbers, "safe fn lampughjata_", |p| rust_type(p, ""));
+    for (unit, suffix) in [("uint32_t", ""), ("uint8_t", "_bytes")] {
+        let over = calls(lent, "concat!(\"lampughjata_", |p| rust_type(p, unit));
+        declared.extend(over.into_iter().map(|(name, types)| (name + suffix, types)));
+    }
+    declared
 }
 
 #[test]
 fn declarations_are_the_headers() {
     let header = calls(HEADER, "uint64_t lampughjata_", c_type);
-    let beside = calls(RAW, "uint64_t lampughjata_", c_type);
-    let declared = calls(RAW, "    fn lampughjata_", rust_type);
-    assert_eq!(declared.len(), 12);
-    assert_eq!(beside, declared, "the comments and the declarations");
-    for (name, types) in &declared {
-        assert_eq!(header.get(name), Some(types), "{name}");
-    }
+    assert_eq!(header.len(), 9 + 2 * 12);
+    assert_eq!(declared(), header);
 }

@@ -154,12 +154,17 @@ fn tables_from_elsewhere_are_tested() {
     assert_eq!(lent.type_of(flags), built.type_of(flags));
 }
 
+/// Words of a buffer that hold 9, which no row of these flags does.
+fn kept(buffer: &[u32]) -> usize {
+    buffer.iter().filter(|word| **word == 9).count()
+}
+
 #[test]
 fn a_lent_buffer_keeps_its_other_words() {
     let mut buffer = [9; 40];
-    let table = Table::build_in(&[6, 1, 6, 9], &mut buffer).unwrap();
+    let table = Table::build_in(&[6, 1, 6, 8], &mut buffer).unwrap();
     assert_eq!(table.rows(), 2);
-    assert_eq!(buffer[32..], [9; 8]);
+    assert_eq!(kept(&buffer), 8);
 
     let mut buffer = [9; 40];
     let refused = Table::build_in(&[6, 1, 6, 33], &mut buffer).unwrap_err();
@@ -170,8 +175,9 @@ fn a_lent_buffer_keeps_its_other_words() {
             place: Place::Definition(1),
         }
     );
-    assert_eq!(buffer[0], 6, "the row before is written");
-    assert_eq!(buffer[16..], [9; 24]);
+    let row = Table::from_words(&buffer, 1).row(0).unwrap();
+    assert_eq!(row[0], 6, "the row before is written");
+    assert_eq!(kept(&buffer), 24);
 }
 
 #[test]

@@ -54,6 +54,7 @@ fn every_kind_of_definition() {
     assert_eq!(description.words(), written);
 
     let table = Table::build(description.words()).unwrap();
-    let kinds = table.words().chunks(16).map(|row| row[0]);
+    let kinds = (0..table.rows()).map(|index| table.row(index).unwrap()[0]);
     assert!(kinds.eq(1..=10));
+    assert_eq!(table.row(10), None);
 }

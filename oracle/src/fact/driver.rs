@@ -161,26 +161,24 @@ impl Original {
         original
     }
 
-    /// Puts well-formed rows that no build wrote into the original's tables. Words 8 to 14 of a row
-    /// play no part in a question.
-    pub fn forge(&mut self, rows: &[u32]) {
-        for row in rows.chunks_exact(16) {
-            let abi = CanonicalAbiInfo {
-                size32: row[1],
-                align32: row[2],
-                size64: row[3],
-                align64: row[4],
-                flat_count: (row[5] != 255).then_some(row[5] as u8),
-            };
-            let unpack = |word: u32| -> Vec<FlatType> {
-                let codes = (0..row[5]).map(|k| word >> (2 * k) & 3);
-                codes.map(|code| FLAT_TYPES[code as usize]).collect()
-            };
-            let flat = (row[5] != 255).then(|| [row[6], row[7]].map(unpack));
-            let ty = builder_opened::forge(&mut self.builder, abi, flat, row[15] == 1);
-            self.types.push(ty);
-            self.kinds.push(row[0]);
-        }
+    /// Puts a well-formed row that no build wrote into the original's tables. Words 8 to 14 of it play no
+    /// part in a question.
+    pub fn forge(&mut self, row: &[u32; 16]) {
+        let abi = CanonicalAbiInfo {
+            size32: row[1],
+            align32: row[2],
+            size64: row[3],
+            align64: row[4],
+            flat_count: (row[5] != 255).then_some(row[5] as u8),
+        };
+        let unpack = |word: u32| -> Vec<FlatType> {
+            let codes = (0..row[5]).map(|k| word >> (2 * k) & 3);
+            codes.map(|code| FLAT_TYPES[code as usize]).collect()
+        };
+        let flat = (row[5] != 255).then(|| [row[6], row[7]].map(unpack));
+        let ty = builder_opened::forge(&mut self.builder, abi, flat, row[15] == 1);
+        self.types.push(ty);
+        self.kinds.push(row[0]);
     }
 
     /// Document 01's sixteen words of a definition.

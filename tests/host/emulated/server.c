@@ -3,88 +3,29 @@
  *
  * On standard input come batches: a u64 with the number of bytes that follow, then requests one after
  * the other. On standard output goes, for each request in order, the u64 that the call answered and the
- * lent memory afterwards, guards and all, padded to a multiple of eight. All numbers are little-endian.
+ * written buffers afterwards, guards and all, each padded to a multiple of eight. All numbers are
+ * little-endian.
  *
- * A request is sixteen u32 words: the function (port/call.rs has the numbers), the unit (4 for the call
- * over words, 1 for its twin over bytes), eight numbers, the bytes of three slices, the bytes of the
- * lent memory with its guards, where the part begins that the call is lent, and that part's bytes. Then
- * come the three slices and the lent memory, each padded to a multiple of eight. */
+ * A request is twenty u32 words: the function (port/call.rs has the numbers), the unit (4 for the call
+ * over words, 1 for its twin over bytes), eight numbers, the bytes of three slices; of each of two
+ * buffers to be written its bytes with the guards, where the part begins that the call is lent, and that
+ * part's bytes; and a word that is not read. Then come the three slices and the two buffers, each padded
+ * to a multiple of eight. */
+#include "lampughjata.h"
 
-typedef unsigned char u8;
-typedef unsigned int u32;
-typedef unsigned long long u64;
-typedef unsigned long usize;
+typedef uint8_t u8;
+typedef uint32_t u32;
+typedef uint64_t u64;
+typedef size_t usize;
 
-enum { BATCH = 64 << 20, HEADER = 16 };
+enum { BATCH = 64 << 20, NUMBERS = 8, SLICES = 3, WRITTEN = 2 };
+
+/* Places in a request's header. */
+enum { FUNCTION, UNIT, FIRST_NUMBER, FIRST_SLICE = FIRST_NUMBER + NUMBERS, FIRST_WRITTEN = FIRST_SLICE + SLICES,
+       HEADER = FIRST_WRITTEN + 3 * WRITTEN + 1 };
 
 static u64 requests[BATCH / 8];
 static u64 answers[BATCH / 8];
-
-/* The calls over numbers. */
-u64 lampughjata_align_to(u32, u32);
-u64 lampughjata_max(u32, u32);
-u64 lampughjata_add_flat(u32, u32);
-u64 lampughjata_max_flat(u32, u32);
-u64 lampughjata_next_field(u32, u32, u32, u32, u32, u32, u32, u32);
-u64 lampughjata_flags(u32, u32);
-u64 lampughjata_enum(u32, u32);
-u64 lampughjata_fixed_length_list(u32, u32, u32, u32, u32, u32, u32);
-u64 lampughjata_discriminant(u32);
-
-/* The calls over lent memory, whose names end in SUFFIX, and a function that makes the one asked for:
- * x the numbers, s and l the slices and their lengths, o the memory to be written. */
-#define LENT_CALLS(RUN, UNIT, SUFFIX)                                                                   \
-    u64 lampughjata_record##SUFFIX(const UNIT *, usize, u32);                                           \
-    u64 lampughjata_variant##SUFFIX(const UNIT *, usize, u32);                                          \
-    u64 lampughjata_build##SUFFIX(const UNIT *, usize, UNIT *, usize);                                  \
-    u64 lampughjata_type##SUFFIX(const UNIT *, usize, u32, u32, u32);                                   \
-    u64 lampughjata_size_align##SUFFIX(u32, const UNIT *, usize, u32, u32);                             \
-    u64 lampughjata_placement##SUFFIX(u32, const UNIT *, usize, u32, const UNIT *, usize, UNIT *,       \
-                                      usize);                                                           \
-    u64 lampughjata_flatten##SUFFIX(u32, u32, const UNIT *, usize, u32, const UNIT *, usize);           \
-    u64 lampughjata_lowering##SUFFIX(u32, u32, const UNIT *, usize, u32, const UNIT *, usize);          \
-    u64 lampughjata_lifting##SUFFIX(u32, u32, const UNIT *, usize, u32, const UNIT *, usize);           \
-    u64 lampughjata_async_start_params##SUFFIX(u32, u32, u32, const UNIT *, usize, u32, const UNIT *,   \
-                                               usize, const UNIT *, usize);                             \
-    u64 lampughjata_async_start_results##SUFFIX(u32, u32, u32, const UNIT *, usize, u32, const UNIT *,  \
-                                                usize, const UNIT *, usize);                            \
-    u64 lampughjata_async_return_params##SUFFIX(u32, u32, u32, u32, const UNIT *, usize, u32,           \
-                                                const UNIT *, usize, const UNIT *, usize);              \
-    u64 lampughjata_async_return_results##SUFFIX(u32, u32, u32, u32, const UNIT *, usize, u32,          \
-                                                 const UNIT *, usize, const UNIT *, usize);             \
-    u64 lampughjata_contains_borrow##SUFFIX(const UNIT *, usize, u32, const UNIT *, usize);             \
-                                                                                                        \
-    static u64 RUN(u32 function, const u32 *x, const void *const slices[3], const usize bytes[3],       \
-                   void *lent, usize lent_bytes)                                                        \
-    {                                                                                                   \
-        const UNIT *a = slices[0], *b = slices[1], *c = slices[2];                                      \
-        usize la = bytes[0] / sizeof(UNIT), lb = bytes[1] / sizeof(UNIT), lc = bytes[2] / sizeof(UNIT); \
-        UNIT *o = lent;                                                                                 \
-        usize lo = lent_bytes / sizeof(UNIT);                                                           \
-        switch (function) {                                                                             \
-        case 9: return lampughjata_record##SUFFIX(a, la, x[0]);                                         \
-        case 10: return lampughjata_variant##SUFFIX(a, la, x[0]);                                       \
-        case 11: return lampughjata_build##SUFFIX(a, la, o, lo);                                        \
-        case 12: return lampughjata_type##SUFFIX(a, la, x[0], x[1], x[2]);                              \
-        case 13: return lampughjata_size_align##SUFFIX(x[0], a, la, x[1], x[2]);                        \
-        case 14: return lampughjata_placement##SUFFIX(x[0], a, la, x[1], b, lb, o, lo);                 \
-        case 15: return lampughjata_flatten##SUFFIX(x[0], x[1], a, la, x[2], b, lb);                    \
-        case 16: return lampughjata_lowering##SUFFIX(x[0], x[1], a, la, x[2], b, lb);                   \
-        case 17: return lampughjata_lifting##SUFFIX(x[0], x[1], a, la, x[2], b, lb);                    \
-        case 18:                                                                                        \
-            return lampughjata_async_start_params##SUFFIX(x[0], x[1], x[2], a, la, x[3], b, lb, c, lc); \
-        case 19:                                                                                        \
-            return lampughjata_async_start_results##SUFFIX(x[0], x[1], x[2], a, la, x[3], b, lb, c, lc);\
-        case 20:                                                                                        \
-            return lampughjata_async_return_params##SUFFIX(x[0], x[1], x[2], x[3], a, la, x[4], b, lb,  \
-                                                           c, lc);                                      \
-        case 21:                                                                                        \
-            return lampughjata_async_return_results##SUFFIX(x[0], x[1], x[2], x[3], a, la, x[4], b, lb, \
-                                                            c, lc);                                     \
-        case 22: return lampughjata_contains_borrow##SUFFIX(a, la, x[0], b, lb);                        \
-        default: return over_numbers(function, x);                                                      \
-        }                                                                                               \
-    }
 
 static u64 over_numbers(u32 function, const u32 *x)
 {
@@ -100,6 +41,36 @@ static u64 over_numbers(u32 function, const u32 *x)
     default: return lampughjata_discriminant(x[0]);
     }
 }
+
+/* A function that makes the call asked for, of those whose names end in SUFFIX: x the numbers, a to c the slices, o the
+ * first buffer to be written, each with its length in units. No call is lent a second one yet. */
+#define LENT_CALLS(RUN, TYPE, SUFFIX)                                                                   \
+    static u64 RUN(u32 function, const u32 *x, const void *const slices[SLICES], const usize bytes[SLICES], \
+                   void *const written[WRITTEN], const usize written_bytes[WRITTEN])                    \
+    {                                                                                                   \
+        const TYPE *a = slices[0], *b = slices[1], *c = slices[2];                                      \
+        usize la = bytes[0] / sizeof(TYPE), lb = bytes[1] / sizeof(TYPE), lc = bytes[2] / sizeof(TYPE); \
+        TYPE *o = written[0];                                                                           \
+        usize lo = written_bytes[0] / sizeof(TYPE);                                                     \
+        switch (function) {                                                                             \
+        case 9: return lampughjata_record##SUFFIX(a, la, x[0]);                                         \
+        case 10: return lampughjata_variant##SUFFIX(a, la, x[0]);                                       \
+        case 11: return lampughjata_build##SUFFIX(a, la, o, lo);                                        \
+        case 12: return lampughjata_type##SUFFIX(a, la, x[0], x[1], x[2]);                              \
+        case 13: return lampughjata_size_align##SUFFIX(x[0], a, la, x[1], x[2]);                        \
+        case 14: return lampughjata_placement##SUFFIX(x[0], a, la, x[1], b, lb, o, lo);                 \
+        case 15: return lampughjata_flatten##SUFFIX(x[0], x[1], a, la, x[2], b, lb);                    \
+        case 16: return lampughjata_lowering##SUFFIX(x[0], x[1], a, la, x[2], b, lb);                   \
+        case 17: return lampughjata_lifting##SUFFIX(x[0], x[1], a, la, x[2], b, lb);                    \
+        case 18:                                                                                        \
+            return lampughjata_async_start##SUFFIX(x[0], x[1], x[2], a, la, x[3], b, lb, c, lc, x[4]);  \
+        case 19:                                                                                        \
+            return lampughjata_async_return##SUFFIX(x[0], x[1], x[2], x[3], a, la, x[4], b, lb, c, lc,  \
+                                                    x[5]);                                              \
+        case 20: return lampughjata_contains_borrow##SUFFIX(a, la, x[0], b, lb);                        \
+        default: return over_numbers(function, x);                                                      \
+        }                                                                                               \
+    }
 
 LENT_CALLS(run_words, u32, )
 LENT_CALLS(run_bytes, u8, _bytes)
@@ -187,23 +158,30 @@ static void transfer(long number, void *memory, usize bytes)
 static usize answer(const u8 *request, u8 **to)
 {
     const u32 *header = (const u32 *)request;
-    const void *slices[3];
-    usize bytes[3];
+    const void *slices[SLICES];
+    usize bytes[SLICES];
     usize at = 4 * HEADER;
-    for (int k = 0; k < 3; k++) {
+    for (int k = 0; k < SLICES; k++) {
         slices[k] = request + at;
-        bytes[k] = header[10 + k];
+        bytes[k] = header[FIRST_SLICE + k];
         at += padded(bytes[k]);
     }
-    usize whole = padded(header[13]);
     u64 *answered = (u64 *)*to;
-    u8 *lent = *to + 8;
-    memcpy(lent, request + at, whole);
-    void *part = lent + header[14];
-    *answered = header[1] == 4 ? run_words(header[0], header + 2, slices, bytes, part, header[15])
-                               : run_bytes(header[0], header + 2, slices, bytes, part, header[15]);
-    *to = lent + whole;
-    return at + whole;
+    *to += 8;
+    void *written[WRITTEN];
+    usize written_bytes[WRITTEN];
+    for (int k = 0; k < WRITTEN; k++) {
+        const u32 *lent = header + FIRST_WRITTEN + 3 * k;
+        usize whole = padded(lent[0]);
+        memcpy(*to, request + at, whole);
+        written[k] = *to + lent[1];
+        written_bytes[k] = lent[2];
+        *to += whole;
+        at += whole;
+    }
+    *answered = (header[UNIT] == 4 ? run_words : run_bytes)(header[FUNCTION], header + FIRST_NUMBER, slices, bytes,
+                                                            written, written_bytes);
+    return at;
 }
 
 void serve(void)

@@ -37,14 +37,12 @@ pub enum Leaf {
     },
 }
 
-/// Which list of a signature is asked for.
-#[derive(Clone, Copy, PartialEq, Eq, Debug)]
-pub enum Part {
-    Params,
-    Results,
+/// One side of a call between components, by the boundary's numbers.
+#[derive(Clone, Copy, Debug)]
+pub struct Side {
+    pub memory: u32,
+    pub asynchronous: u32,
 }
-
-pub const PARTS: [Part; 2] = [Part::Params, Part::Results];
 
 /// A question put to a table.
 #[derive(Clone, Debug)]
@@ -69,36 +67,34 @@ pub enum Question {
         references: Vec<u32>,
     },
     Lowering {
-        memory: u32,
-        asynchronous: u32,
+        side: Side,
         references: Vec<u32>,
     },
     Lifting {
-        memory: u32,
-        asynchronous: u32,
+        side: Side,
         references: Vec<u32>,
     },
     AsyncStart {
-        lower_memory: u32,
-        lower_async: u32,
+        lower: Side,
         lift_memory: u32,
-        lower: Vec<u32>,
-        lift: Vec<u32>,
-        part: Part,
+        lower_types: Vec<u32>,
+        lift_types: Vec<u32>,
+        k: u32,
     },
     AsyncReturn {
-        lift_memory: u32,
-        lift_async: u32,
-        lower_memory: u32,
-        lower_async: u32,
-        lift: Vec<u32>,
-        lower: Vec<u32>,
-        part: Part,
+        lift: Side,
+        lower: Side,
+        lift_types: Vec<u32>,
+        lower_types: Vec<u32>,
+        k: u32,
     },
     ContainsBorrow {
         references: Vec<u32>,
     },
 }
+
+/// The most buffers that a call is lent to write. No call is lent a second one yet.
+pub const WRITTEN: usize = 2;
 
 impl Question {
     /// The lists of references in the order of the call's arguments; empty ones where the question
@@ -111,8 +107,16 @@ impl Question {
             | Question::Lowering { references, .. }
             | Question::Lifting { references, .. }
             | Question::ContainsBorrow { references } => [references, &[]],
-            Question::AsyncStart { lower, lift, .. } => [lower, lift],
-            Question::AsyncReturn { lift, lower, .. } => [lift, lower],
+            Question::AsyncStart {
+                lower_types,
+                lift_types,
+                ..
+            } => [lower_types, lift_types],
+            Question::AsyncReturn {
+                lift_types,
+                lower_types,
+                ..
+            } => [lift_types, lower_types],
         }
     }
 
@@ -130,11 +134,11 @@ impl Question {
             .chain(lists.into_iter().flatten().copied())
     }
 
-    /// The length of the buffer that the question lends.
-    pub fn room(&self) -> usize {
+    /// The length of each buffer that the question lends, in words.
+    pub fn rooms(&self) -> [Option<usize>; WRITTEN] {
         match self {
-            Question::Placement { room, .. } => *room,
-            _ => 0,
+            Question::Placement { room, .. } => [Some(*room), None],
+            _ => [None, None],
         }
     }
 }

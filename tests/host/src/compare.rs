@@ -1,8 +1,9 @@
 //! One call put to port, model and original, and the answers compared.
-use crate::calls::{Leaf, Question};
+use crate::calls::{Leaf, Question, WRITTEN};
 use crate::faults::Fault;
+use crate::model::Row;
 use crate::original::{self, Outcome};
-use crate::port::{self, Answered, Call, Cell, Lent, Port};
+use crate::port::{self, Answered, Call, Cell, Due, Lent, Port};
 use crate::random::Random;
 use crate::tally::Tally;
 use crate::{encode, model, reading};
@@ -11,6 +12,12 @@ use std::fmt::Debug;
 
 /// Words before and after each lent buffer, which no call may touch.
 pub const GUARD: usize = 8;
+/// For a call that is lent no buffer to write, or only one.
+const NO_BUFFER: Lent = Lent {
+    before: &[],
+    expected: &[],
+};
+const NOTHING: [Lent; WRITTEN] = [NO_BUFFER; WRITTEN];
 /// Descriptions whose conversions are at most so many go to the original with no line changed.
 const UNCHANGED_CONVERSIONS: u64 = 300;
 
@@ -61,13 +68,13 @@ impl Run {
         match leaf {
             Leaf::Record { infos: words, .. } | Leaf::Variant { cases: words, .. } => {
                 let bytes = bytes_of(words);
-                self.call(port::leaf(leaf, Cell::Word, &bytes), &[], expected, &[]);
+                self.call(port::leaf(leaf, Cell::Word, &bytes), expected, NOTHING);
                 if self.random.once_in(self.bytes_once_in) {
                     let bytes = self.bytes_with_tail(words);
-                    self.call(port::leaf(leaf, Cell::Byte, &bytes), &[], expected, &[]);
+                    self.call(port::leaf(leaf, Cell::Byte, &bytes), expected, NOTHING);
                 }
             }
-            _ => self.call(port::leaf(leaf, Cell::Word, &[]), &[], expected, &[]),
+            _ => self.call(port::leaf(leaf, Cell::Word, &[]), expected, NOTHING),
         }
     }
 
@@ -110,13 +117,10 @@ impl Run {
     fn port_build(&mut self, words: &[u32], model: ModelBuild) -> Vec<u32> {
         let room = model.after.len() - 2 * GUARD;
         let description = bytes_of(words);
-        let (before, after) = (bytes_of(&model.before), bytes_of(&model.after));
-        self.call(
-            port::build(Cell::Word, &description),
-            &before,
-            model.answer,
-            &after,
-        );
+        let (before, expected) = (&bytes_of(&model.before), &bytes_of(&model.after));
+        let table = Lent { before, expected };
+        let call = port::build(Cell::Word, &description);
+        self.call(call, model.answer, [table, NO_BUFFER]);
         if self.random.once_in(self.bytes_once_in) {
             self.build_bytes(&description, room);
         }
@@ -126,45 +130,37 @@ impl Run {
     /// Builds from bytes, of any number, in so many whole words and up to three bytes more.
     pub fn build_bytes(&mut self, description: &[u8], room: usize) {
         let before = self.lent(room);
-        let before = self.bytes_with_tail(&before);
-        let lent = 4 * GUARD..before.len() - 4 * GUARD;
+        let before = &self.bytes_with_tail(&before);
         let mut expected = before.clone();
-        let said = model::build_bytes(description, &mut expected[lent.clone()]);
-        let said = encode::answer(said);
+        let lent = 4 * GUARD..before.len() - 4 * GUARD;
+        let said = encode::answer(model::build_bytes(description, &mut expected[lent]));
+        let expected = &expected;
+        let table = Lent { before, expected };
         self.call(
             port::build(Cell::Byte, description),
-            &before,
             said,
-            &expected,
+            [table, NO_BUFFER],
         );
     }
 
     pub fn ask(&mut self, subject: &mut Subject, question: &Question) {
-        let (table, n) = (&subject.table[..], subject.n);
-        let room = question.room();
-        let before = self.lent(room);
+        let before = question.rooms().map(|room| self.lent_if(room));
         let mut expected = before.clone();
-        let lent = GUARD..GUARD + room;
-        let said = model::ask(question, table, n, &mut expected[lent.clone()]);
-        let said = encode::answer(said);
-        let offsets = &expected[lent];
+        let said = model_ask(subject, question, &mut expected);
         if let (Some(original), 0 | 6) = (&mut subject.original, encode::refusal(said)) {
             let mut held = question.references().filter(|word| *word >= 64);
             let suspect = |word: u32| subject.suspects.get(word as usize - 64) == Some(&true);
             let apart = held.any(suspect);
             let outcome = original::ask(original, question);
-            self.judge(question, said, offsets, outcome, apart);
+            self.judge(question, said, offsets_of(&expected), outcome, apart);
         }
         let lists = question.lists().map(bytes_of);
         let lists = lists.each_ref().map(|list| &list[..]);
-        let table_bytes = &subject.bytes[..4 * table.len()];
-        let (before, after) = (bytes_of(&before), bytes_of(&expected));
-        self.call(
-            port::question(question, Cell::Word, table_bytes, n, lists),
-            &before,
-            said,
-            &after,
-        );
+        let table = &subject.bytes[..4 * subject.table.len()];
+        let call = port::question(question, Cell::Word, table, subject.n, lists);
+        let before = before.map(|words| bytes_of(&words));
+        let expected = expected.map(|words| bytes_of(&words));
+        self.call(call, said, written(&before, &expected));
         if self.random.once_in(self.bytes_once_in) {
             self.ask_bytes(subject, question, said);
         }
@@ -172,40 +168,33 @@ impl Run {
 
     /// The byte call must answer as the word call did and write what the model does.
     fn ask_bytes(&mut self, subject: &Subject, question: &Question, said: u64) {
-        let room = question.room();
-        let words = self.lent(room);
-        let before = self.bytes_with_tail(&words);
-        let lent = 4 * GUARD..before.len() - 4 * GUARD;
-        let mut expected = before.clone();
-        if room > 0 {
-            let mut words = model::words_of(&before[lent.clone()]);
-            // The answer cannot differ from `said`: a tail adds no whole word.
-            let _ = model::ask(question, &subject.table, subject.n, &mut words);
-            expected[lent.start..lent.start + 4 * words.len()].copy_from_slice(&bytes_of(&words));
-        }
+        let words = question.rooms().map(|room| self.lent_if(room));
+        let mut after = words.clone();
+        // The answer cannot differ from `said`: the same rooms, and a tail adds no whole word.
+        let _ = model_ask(subject, question, &mut after);
+        let before = words.each_ref().map(|words| match words.is_empty() {
+            true => vec![],
+            false => self.bytes_with_tail(words),
+        });
+        let expected = std::array::from_fn(|buffer| {
+            // What the model wrote, and the tail as it was.
+            let mut bytes = before[buffer].clone();
+            let whole = bytes_of(&after[buffer]);
+            bytes[..whole.len()].copy_from_slice(&whole);
+            bytes
+        });
         let lists = question.lists().map(|list| self.bytes_with_tail(list));
         let lists = lists.each_ref().map(|list| &list[..]);
-        self.call(
-            port::question(question, Cell::Byte, &subject.bytes, subject.n, lists),
-            &before,
-            said,
-            &expected,
-        );
+        let call = port::question(question, Cell::Byte, &subject.bytes, subject.n, lists);
+        self.call(call, said, written(&before, &expected));
     }
 
-    /// Puts a call to the port. `before` is the memory it is lent, guards and all; `expected` what
-    /// that must be afterwards.
-    fn call(&mut self, mut call: Call, before: &[u8], said: u64, expected: &[u8]) {
-        let guard = if before.is_empty() { 0 } else { 4 * GUARD };
-        let lent = Lent {
-            whole: before,
-            start: guard,
-            length: before.len() - 2 * guard,
-        };
+    /// Puts a call to the port, with the answer and the buffers that are due.
+    fn call(&mut self, mut call: Call, answer: u64, written: [Lent; WRITTEN]) {
         Fault::before(self.fault, &mut call);
         let (tally, fault) = (&mut self.tally, self.fault);
         let mut judge = |answered: Answered| judge_port(tally, fault, answered);
-        self.port.call(call, lent, said, expected, &mut judge);
+        self.port.call(call, Due { answer, written }, &mut judge);
     }
 
     /// Compares whatever still waits for the port.
@@ -218,14 +207,12 @@ impl Run {
     /// A table that no build wrote. The original is given its well-formed rows; a reference to
     /// another one is refused before the original is asked.
     pub fn forged(&mut self, table: Vec<u32>, n: u32) -> Subject {
-        const FILLER: [u32; 16] = [1, 0, 1, 0, 1, 0, 0, 0, 0, 0, 0, 0, 0, 0, 0, 0];
+        const FILLER: Row = [1, 0, 1, 0, 1, 0, 0, 0, 0, 0, 0, 0, 0, 0, 0, 0];
         let mut original = Original::new();
-        let rows = table
-            .chunks_exact(model::ROW)
-            .take((n as usize).min(model::MOST_ROWS));
-        for row in rows {
-            original.forge(if model::well_formed(row) {
-                row
+        for index in 0..model::capacity(table.len()).min(n as usize) {
+            let row = model::row(&table, index);
+            original.forge(if model::well_formed(&row) {
+                &row
             } else {
                 &FILLER
             });
@@ -282,12 +269,13 @@ impl Run {
         if built != Ok(accepted) {
             return (None, suspects);
         }
-        let rows = model.after[GUARD..].chunks_exact(model::ROW);
-        for (index, row) in rows.take(accepted).enumerate() {
+        let table = &model.after[GUARD..model.after.len() - GUARD];
+        for (index, suspect) in suspects.iter().enumerate() {
+            let row = model::row(table, index);
             let mut said = original.row(index);
             Fault::original_row(self.fault, &mut said);
-            let same = said == *row && original.agrees_with_itself(index);
-            self.tally.original(same, suspects[index], || {
+            let same = said == row && original.agrees_with_itself(index);
+            self.tally.original(same, *suspect, || {
                 let what = format!("row {index} of {words:?}");
                 difference(&what, "original", &said, "model", &row)
             });
@@ -338,6 +326,11 @@ impl Run {
         self.tally.original(same, apart, || report(&outcome));
     }
 
+    /// A buffer of so many words, or none at all.
+    fn lent_if(&mut self, room: Option<usize>) -> Vec<u32> {
+        room.map_or(vec![], |room| self.lent(room))
+    }
+
     /// A buffer with guards before and after, filled with words that no answer is likely to hold.
     fn lent(&mut self, room: usize) -> Vec<u32> {
         let salt = self.random.word();
@@ -359,6 +352,34 @@ pub fn bytes_of(words: &[u32]) -> Vec<u8> {
     words.iter().flat_map(|word| word.to_le_bytes()).collect()
 }
 
+/// The model's answer, as the boundary has it; the buffers have their guards.
+fn model_ask(subject: &Subject, question: &Question, written: &mut [Vec<u32>; WRITTEN]) -> u64 {
+    let parts = written.each_mut().map(|words| match words.len() {
+        0 => &mut words[..],
+        length => &mut words[GUARD..length - GUARD],
+    });
+    encode::answer(model::ask(question, &subject.table, subject.n, parts))
+}
+
+/// A placement's offsets and what follows them, without guards; empty if nothing was lent.
+fn offsets_of(written: &[Vec<u32>; WRITTEN]) -> &[u32] {
+    match written[0].len() {
+        0 => &[],
+        length => &written[0][GUARD..length - GUARD],
+    }
+}
+
+/// The buffers of a call, before it and as they must be after it.
+fn written<'a>(
+    before: &'a [Vec<u8>; WRITTEN],
+    expected: &'a [Vec<u8>; WRITTEN],
+) -> [Lent<'a>; WRITTEN] {
+    std::array::from_fn(|buffer| Lent {
+        before: &before[buffer],
+        expected: &expected[buffer],
+    })
+}
+
 fn difference(
     what: &dyn Debug,
     one: &str,
@@ -373,18 +394,24 @@ fn judge_port(tally: &mut Tally, fault: Option<Fault>, mut answered: Answered) {
     Fault::after(fault, &mut answered);
     let said = answered.expected_answer;
     let same = answered.answer == said && answered.after == answered.expected_after;
-    let Call { function, cell, .. } = answered.call;
-    tally.coverage.asked(function, cell, said);
-    tally.answer(same, cell == Cell::Byte, || {
-        let after = answered.after.iter().zip(answered.expected_after);
-        let memory = match after.clone().position(|(port, model)| port != model) {
-            Some(place) => format!(
-                "lent memory, with {} bytes of guard before it, differs first at byte {place}",
-                4 * GUARD
-            ),
-            None => "lent memory is the same".to_string(),
-        };
+    tally.coverage.asked(&answered.call, said);
+    tally.answer(same, answered.call.cell == Cell::Byte, || {
         let (call, answer) = (&answered.call, answered.answer);
+        let memory = first_difference(&answered);
         format!("{call:?}\n    port: {answer:#x}\n    model: {said:#x}\n    {memory}")
     });
+}
+
+fn first_difference(answered: &Answered) -> String {
+    let buffers = answered.after.iter().zip(answered.expected_after);
+    for (buffer, (after, expected)) in buffers.enumerate() {
+        let mut both = after.iter().zip(expected);
+        if let Some(place) = both.position(|(port, model)| port != model) {
+            return format!(
+                "written buffer {buffer}, with {} bytes of guard before it, differs first at byte {place}",
+                4 * GUARD
+            );
+        }
+    }
+    "lent memory is the same".to_string()
 }

@@ -1,11 +1,12 @@
 //! Which calls were put to the port, and which refusals were due: a whole run that leaves out a call
-//! over words or over bytes, or a refusal of it, does not pass for one.
+//! over words or over bytes, one of the numbers that its k chooses, or a refusal of it, does not pass for
+//! one.
 use crate::encode;
-use crate::port::{Cell, Function};
+use crate::port::{Call, Cell, Function};
 use Function::*;
 
 /// Each function, and the refusals that 01 has for it.
-const REFUSALS: [(Function, &[u64]); 23] = [
+const REFUSALS: [(Function, &[u64]); 21] = [
     (AlignTo, &[6, 8]),
     (Max, &[]),
     (AddFlat, &[]),
@@ -24,38 +25,47 @@ const REFUSALS: [(Function, &[u64]); 23] = [
     (Flatten, &[1, 4, 5, 8]),
     (Lowering, &[1, 4, 8]),
     (Lifting, &[1, 4, 8]),
-    (AsyncStartParams, &[1, 4, 8]),
-    (AsyncStartResults, &[1, 4, 8]),
-    (AsyncReturnParams, &[1, 4, 8]),
-    (AsyncReturnResults, &[1, 4, 8]),
+    (AsyncStart, &[1, 4, 8]),
+    (AsyncReturn, &[1, 4, 8]),
     (ContainsBorrow, &[1, 4, 8]),
 ];
 
-/// By function and cell, one bit for each outcome: bit 0 for an answer, bit r for refusal r.
-pub struct Coverage([[u16; 2]; REFUSALS.len()]);
+/// The most numbers that a call's k chooses from, and one more for a k above the last.
+const CHOICES: usize = 9;
+
+/// By function, cell and choice, one bit for each outcome: bit 0 for an answer, bit r for refusal r.
+pub struct Coverage([[[u16; CHOICES]; 2]; REFUSALS.len()]);
 
 impl Coverage {
     pub fn new() -> Coverage {
-        Coverage([[0; 2]; REFUSALS.len()])
+        Coverage([[[0; CHOICES]; 2]; REFUSALS.len()])
     }
 
-    pub fn asked(&mut self, function: Function, cell: Cell, answer: u64) {
-        self.0[function as usize][cell as usize] |= 1 << encode::refusal(answer);
+    pub fn asked(&mut self, call: &Call, answer: u64) {
+        let chosen = match call.function.choice() {
+            Some((place, last)) => call.numbers[place].min(last + 1),
+            None => 0,
+        };
+        let seen = &mut self.0[call.function as usize][call.cell as usize];
+        seen[chosen as usize] |= 1 << encode::refusal(answer);
     }
 
     /// What a whole run must have asked and this one has not.
     pub fn missing(&self) -> Vec<String> {
         let mut missing = Vec::new();
         for (function, refusals) in REFUSALS {
+            let choices = function.choice().map_or(1, |(_, last)| last as usize + 2);
             for cell in [Cell::Word, Cell::Byte] {
                 if cell == Cell::Byte && !function.is_lent_memory() {
                     continue;
                 }
-                let seen = self.0[function as usize][cell as usize];
-                for outcome in refusals.iter().chain(&[0]) {
-                    if seen & 1 << outcome == 0 {
-                        missing.push(format!("{function:?} over {cell:?}s, outcome {outcome}"));
-                    }
+                let seen = &self.0[function as usize][cell as usize][..choices];
+                for (k, seen) in seen.iter().enumerate() {
+                    let outcomes = refusals.iter().chain(&[0]);
+                    let unseen = outcomes.filter(|outcome| seen & 1 << **outcome == 0);
+                    missing.extend(unseen.map(|outcome| {
+                        format!("{function:?} over {cell:?}s, k {k}, outcome {outcome}")
+                    }));
                 }
             }
         }

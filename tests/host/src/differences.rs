@@ -1,6 +1,6 @@
 //! Where the original differs from 01: the smallest inputs, and what each says, for
 //! docs/DIFFERENCES.md. Built with the profile `shipped` the original wraps where it panics else.
-use crate::calls::Leaf;
+use crate::calls::{Leaf, Question};
 use crate::original::Outcome;
 use crate::{encode, model, original};
 use oracle::{Original, Stopped};
@@ -57,37 +57,64 @@ const DESCRIPTIONS: [(&str, &[&[u32]]); 8] = [
     ("wide enums", &[&[7, 16_777_217], &[7, 4_294_967_295]]),
 ];
 
-const LEAVES: [Leaf; 10] = [
-    Leaf::AlignTo(4_294_967_295, 8),
-    Leaf::AlignTo(5, 3),
-    Leaf::AlignTo(5, 0),
-    Leaf::AlignTo(5, 16),
-    Leaf::NextField {
-        memory: 0,
-        info: [4, 4, 4, 4, 1],
-        end: 4_294_967_293,
-        k: 0,
-    },
-    Leaf::NextField {
-        memory: 0,
-        info: [5, 4, 4, 4, 1],
-        end: 0,
-        k: 1,
-    },
-    Leaf::NextField {
-        memory: 0,
-        info: [4, 4, 4, 4, 17],
-        end: 0,
-        k: 1,
-    },
-    Leaf::FixedLengthList {
-        info: [2, 2, 2, 2, 1],
-        count: 2_147_483_648,
-        k: 0,
-    },
-    Leaf::MaxFlat(17, 200),
-    Leaf::Flags(8_160, 4),
-];
+fn leaves() -> Vec<Leaf> {
+    vec![
+        Leaf::AlignTo(4_294_967_295, 8),
+        Leaf::AlignTo(5, 3),
+        Leaf::AlignTo(5, 0),
+        Leaf::AlignTo(5, 16),
+        Leaf::NextField {
+            memory: 0,
+            info: [4, 4, 4, 4, 1],
+            end: 4_294_967_293,
+            k: 0,
+        },
+        Leaf::NextField {
+            memory: 0,
+            info: [5, 4, 4, 4, 1],
+            end: 0,
+            k: 1,
+        },
+        Leaf::NextField {
+            memory: 0,
+            info: [4, 4, 4, 4, 17],
+            end: 0,
+            k: 1,
+        },
+        Leaf::FixedLengthList {
+            info: [2, 2, 2, 2, 1],
+            count: 2_147_483_648,
+            k: 0,
+        },
+        Leaf::FixedLengthList {
+            info: [5, 4, 4, 4, 1],
+            count: 1,
+            k: 0,
+        },
+        Leaf::Record {
+            infos: vec![5, 4, 4, 4, 1],
+            k: 0,
+        },
+        Leaf::Record {
+            infos: vec![3, 3, 4, 4, 1],
+            k: 0,
+        },
+        Leaf::Record {
+            infos: vec![4, 4, 4, 4, 17],
+            k: 4,
+        },
+        Leaf::Variant {
+            cases: vec![1, 5, 4, 4, 4, 1],
+            k: 0,
+        },
+        Leaf::Variant {
+            cases: vec![1, 3, 3, 4, 4, 1],
+            k: 0,
+        },
+        Leaf::MaxFlat(17, 200),
+        Leaf::Flags(8_160, 4),
+    ]
+}
 
 pub fn print() {
     let checked = cfg!(debug_assertions);
@@ -106,12 +133,13 @@ pub fn print() {
         }
     }
     println!("\nleaves");
-    for leaf in LEAVES {
+    for leaf in leaves() {
         println!("  {leaf:?}");
         println!("    original: {}", outcome(original::leaf(&leaf)));
         println!("    model:    {}", said(encode::leaf(model::leaf(&leaf))));
     }
     questions();
+    limits();
     cost();
 }
 
@@ -130,14 +158,14 @@ fn original_build(words: &[u32]) -> String {
 }
 
 fn model_build(words: &[u32]) -> String {
-    let mut table = [0; 64];
+    let mut table = [0; 4 * model::ROW];
     match model::build(words, &mut table) {
-        Ok(n) => row(&table[16 * (n as usize - 1)..16 * n as usize]),
+        Ok(n) => row(&model::row(&table, n as usize - 1)),
         Err(refused) => format!("refusal {} at {}", refused.number, refused.at),
     }
 }
 
-fn row(row: &[u32]) -> String {
+fn row(row: &model::Row) -> String {
     let flat = match row[5] {
         255 => "none".to_string(),
         flat => flat.to_string(),
@@ -202,6 +230,42 @@ fn questions() {
     println!("  flatten at maximum 17, seventeen U32");
     println!("    original: {:?}", original.flatten(false, 17, &types));
     println!("    model:    refusal 5");
+}
+
+/// What 01 limits and the original does not.
+fn limits() {
+    println!("\nlimits");
+    let mut original = Original::new();
+    let definitions = [1, 0].repeat(1_025);
+    println!("  1025 definitions of an empty record");
+    let built = original.build(&definitions, usize::MAX).ok();
+    println!("    original: {built:?} (None: panics)");
+    let built = model::build(&definitions, &mut [0; 16_400]);
+    println!("    model:    {}", ended(built));
+    println!("  a record of 16383 U8, in 16385 words");
+    let words = [vec![1, 16_383], vec![2; 16_383]].concat();
+    println!("    original: {}", original_build(&words));
+    println!("    model:    {}", model_build(&words));
+    println!("  placement of 16385 U8");
+    let references = vec![original.reference(2).expect("U8"); 16_385];
+    let placed = original
+        .placement(false, &references)
+        .map(|to| (to.size, to.align));
+    println!("    original: {placed:?} (None: panics)");
+    let question = Question::Placement {
+        memory: 0,
+        references: vec![2; 16_385],
+        room: 16_385,
+    };
+    let asked = model::ask(&question, &[], 0, [&mut [0; 16_385], &mut []]);
+    println!("    model:    {}", ended(asked));
+}
+
+fn ended(answer: model::Answer<u64>) -> String {
+    match answer {
+        Ok(value) => value.to_string(),
+        Err(refused) => format!("refusal {} at {}", refused.number, refused.at),
+    }
 }
 
 fn cost() {

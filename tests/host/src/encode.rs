@@ -21,6 +21,11 @@ pub fn layout(size: u64, align: u64) -> u64 {
     size | align << 32
 }
 
+/// A placement's bits are its own, though today they are those of a layout.
+pub fn placement(size: u64, align: u64) -> u64 {
+    layout(size, align)
+}
+
 /// The packed types in bits 0 to 33, their count in bits 40 to 47.
 pub fn list(types: &[Core]) -> u64 {
     let codes = types.iter().map(|core| *core as u64);
@@ -37,4 +42,9 @@ pub const MEMORY: u64 = 1 << 55;
 
 pub fn list_or_memory(types: Option<Vec<Core>>) -> u64 {
     types.map_or(MEMORY, |types| list(&types))
+}
+
+/// A signature's parameters for k = 0, its results for every other k.
+pub fn half<T>([params, results]: [T; 2], k: u32) -> T {
+    if k == 0 { params } else { results }
 }

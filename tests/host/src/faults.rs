@@ -29,6 +29,12 @@ pub enum Fault {
     LongTable,
     /// The last byte of a buffer of more than 16,384 words is changed over bytes.
     LongBuffer,
+    /// A flat count of none is answered as 256.
+    NoneAs256,
+    /// An info whose flat count is above 255 is taken for one without a flat count.
+    LargeCount,
+    /// The parameters of a signature are answered for its results.
+    OtherHalf,
     /// Rounding gives one alignment too much at a multiple.
     Rounding,
     /// The original's rows have a size one too great.
@@ -37,7 +43,7 @@ pub enum Fault {
     OriginalList,
 }
 
-pub const FAULTS: [Fault; 14] = [
+pub const FAULTS: [Fault; 17] = [
     Fault::OffsetOneOff,
     Fault::PositionOneOff,
     Fault::TableWord,
@@ -49,6 +55,9 @@ pub const FAULTS: [Fault; 14] = [
     Fault::ByteTail,
     Fault::LongTable,
     Fault::LongBuffer,
+    Fault::NoneAs256,
+    Fault::LargeCount,
+    Fault::OtherHalf,
     Fault::Rounding,
     Fault::OriginalSize,
     Fault::OriginalList,
@@ -57,8 +66,16 @@ pub const FAULTS: [Fault; 14] = [
 impl Fault {
     /// What is wrong with the call itself.
     pub fn before(fault: Option<Fault>, call: &mut Call) {
-        if fault == Some(Fault::OtherMemory) && call.function == Function::Flatten {
-            call.numbers[0] = u32::from(call.numbers[0] == 0);
+        let numbers = &mut call.numbers;
+        match (fault, call.function) {
+            (Some(Fault::OtherMemory), Function::Flatten) => {
+                numbers[0] = u32::from(numbers[0] == 0);
+            }
+            (Some(Fault::LargeCount), Function::FixedLengthList) => {
+                numbers[4] = numbers[4].min(255);
+            }
+            (Some(Fault::OtherHalf), Function::AsyncStart) => numbers[4] = 0,
+            _ => {}
         }
     }
 
@@ -80,6 +97,7 @@ impl Fault {
         } = answered;
         let references = call.slices[1].len() / 4;
         let words = call.cell == Cell::Word;
+        let after = &mut after[0];
         // The guards go off at both ends.
         let lent = after.len().saturating_sub(2 * offset(0));
         let last = offset(0) + lent.saturating_sub(1);
@@ -101,12 +119,12 @@ impl Fault {
     fn in_answer(self, call: &Call, answer: &mut u64) {
         let function = call.function;
         let refusal = encode::refusal(*answer);
-        let is_question = function as u32 > Function::Build as u32;
+        let is_question = function.is_question();
         match (self, function) {
-            (Fault::LowerPointer, Function::AsyncReturnParams) => {
-                let [lift_memory, _, lower_memory, ..] = call.numbers;
+            (Fault::LowerPointer, Function::AsyncReturn) => {
+                let [lift_memory, _, lower_memory, _, _, k, ..] = call.numbers;
                 let count = *answer >> 40;
-                if refusal == 0 && lift_memory != 0 && lower_memory == 0 && count > 1 {
+                if refusal == 0 && k == 0 && lift_memory != 0 && lower_memory == 0 && count > 1 {
                     *answer &= !(3 << (2 * (count - 1)));
                 }
             }
@@ -118,6 +136,9 @@ impl Fault {
             }
             (Fault::Saturates, Function::FixedLengthList) if refusal == 6 => {
                 *answer = u64::from(u32::MAX);
+            }
+            (Fault::NoneAs256, Function::Type) if *answer == 255 && call.numbers[2] == 4 => {
+                *answer = 256;
             }
             (Fault::WrongRefusal, _) if refusal == 8 && is_question => {
                 *answer = *answer & (u64::MAX >> 8) | 4 << 56;

@@ -1,4 +1,6 @@
 //! Random descriptions, references, infos and rows.
+use crate::calls::Info;
+use crate::model::Row;
 use crate::random::Random;
 
 /// What a random description looks like.
@@ -148,7 +150,7 @@ pub fn references(random: &mut Random, n: u32, count: u64, bad_once_in: u64) -> 
 }
 
 /// An info: most are well formed, some are large, some break a rule.
-pub fn info(random: &mut Random) -> [u32; 5] {
+pub fn info(random: &mut Random) -> Info {
     let mut info = [0; 5];
     for memory in 0..2 {
         let align = random.pick(&[1, 2, 4, 8]);
@@ -162,29 +164,50 @@ pub fn info(random: &mut Random) -> [u32; 5] {
         info[2 * memory + 1] = align;
     }
     info[4] = match random.below(6) {
-        0 => random.pick(&[16, 256, 300, u32::MAX]),
+        0 => random.pick(&[16, 255]),
         _ => random.below(17) as u32,
     };
     if random.once_in(25) {
         let place = random.below(5) as usize;
-        info[place] = random.pick(&[0, 1, 3, 5, 6, 7, 9, 12, 16, 17, 255, 256, u32::MAX]);
+        info[place] = random.pick(&[
+            0,
+            1,
+            3,
+            5,
+            6,
+            7,
+            9,
+            12,
+            16,
+            17,
+            18,
+            254,
+            255,
+            256,
+            257,
+            u32::MAX,
+        ]);
     }
     info
 }
 
+/// Whether an info keeps 01's rules.
+pub fn is_good(info: &Info) -> bool {
+    let aligned = |k: usize| [1, 2, 4, 8].contains(&info[k + 1]) && info[k] % info[k + 1] == 0;
+    aligned(0) && aligned(2) && (info[4] <= 16 || info[4] == 255)
+}
+
 /// A well-formed row that no build need have written.
-pub fn row(random: &mut Random) -> [u32; 16] {
+pub fn row(random: &mut Random) -> Row {
     let info = loop {
         let info = info(random);
-        let aligned = |k: usize| [1, 2, 4, 8].contains(&info[k + 1]) && info[k] % info[k + 1] == 0;
-        if aligned(0) && aligned(2) && (info[4] <= 16 || info[4] > 255) {
+        if is_good(&info) {
             break info;
         }
     };
     let mut row = [0; 16];
     row[0] = random.between(1, 10) as u32;
-    row[1..5].copy_from_slice(&info[..4]);
-    row[5] = info[4].min(255);
+    row[1..6].copy_from_slice(&info);
     for flat in &mut row[6..8] {
         let used = match info[4] {
             0..=15 => (1 << (2 * info[4])) - 1,

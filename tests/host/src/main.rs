@@ -16,8 +16,6 @@ mod random;
 mod reading;
 mod recorded;
 mod sections;
-#[cfg(feature = "stand-in")]
-mod stand_in;
 mod tally;
 
 use compare::Run;

@@ -1,8 +1,8 @@
 //! The original, asked the boundary's calls.
-use crate::calls::{Info, Leaf, Question};
+use crate::calls::{Info, Leaf, Question, Side};
 use crate::encode;
 use oracle::component::{CanonicalAbiInfo, InterfaceType, VariantInfo, types_opened};
-use oracle::{Flat, Original, Side, guarded};
+use oracle::{Flat, Original, guarded};
 
 /// What the original makes of a call.
 #[derive(Clone, Debug)]
@@ -118,7 +118,7 @@ pub fn ask(original: &mut Original, question: &Question) -> Outcome {
     let is = |answer: u64| Outcome::Is(answer, vec![]);
     match question {
         Question::Type { reference, k } => match original.reference(*reference) {
-            Some(ty) => is(type_number(original.numbers(&ty), *k)),
+            Some(ty) => is(original.numbers(&ty)[(*k as usize).min(7)].into()),
             None => Outcome::Nothing,
         },
         Question::SizeAlign { memory, reference } => match original.reference(*reference) {
@@ -130,7 +130,7 @@ pub fn ask(original: &mut Original, question: &Question) -> Outcome {
         },
         Question::Placement { memory, .. } => match original.placement(*memory != 0, &first) {
             Some(placed) => Outcome::Is(
-                encode::layout(placed.size.into(), placed.align.into()),
+                encode::placement(placed.size.into(), placed.align.into()),
                 placed.offsets,
             ),
             None => Outcome::Panicked,
@@ -140,48 +140,35 @@ pub fn ask(original: &mut Original, question: &Question) -> Outcome {
             *max as usize,
             &first,
         ))),
-        Question::Lowering {
-            memory,
-            asynchronous,
-            ..
-        } => is(list_or_memory(
-            original.lowering(side(*memory, *asynchronous), &first),
-        )),
-        Question::Lifting {
-            memory,
-            asynchronous,
-            ..
-        } => is(list_or_memory(
-            original.lifting(side(*memory, *asynchronous), &first),
-        )),
+        Question::Lowering { side, .. } => {
+            is(list_or_memory(original.lowering(side_of(*side), &first)))
+        }
+        Question::Lifting { side, .. } => {
+            is(list_or_memory(original.lifting(side_of(*side), &first)))
+        }
         Question::AsyncStart {
-            lower_memory,
-            lower_async,
+            lower,
             lift_memory,
-            part,
+            k,
             ..
         } => {
-            let lower = side(*lower_memory, *lower_async);
+            let lower = side_of(*lower);
             // 01 has no async setting for the lift side here: both must answer alike.
             let both = [0, 1].map(|asynchronous| {
-                let lift = side(*lift_memory, asynchronous);
+                let memory = *lift_memory;
+                let lift = side_of(Side {
+                    memory,
+                    asynchronous,
+                });
                 original.async_start((lower, &first), (lift, &second))
             });
             assert_eq!(both[0], both[1], "the lift side's async flag plays a part");
-            is(list(both[0][*part as usize]))
+            is(list(encode::half(both[0], *k)))
         }
-        Question::AsyncReturn {
-            lift_memory,
-            lift_async,
-            lower_memory,
-            lower_async,
-            part,
-            ..
-        } => {
-            let lift = side(*lift_memory, *lift_async);
-            let lower = side(*lower_memory, *lower_async);
+        Question::AsyncReturn { lift, lower, k, .. } => {
+            let (lift, lower) = (side_of(*lift), side_of(*lower));
             let both = original.async_return((lift, &first), (lower, &second));
-            is(list(both[*part as usize]))
+            is(list(encode::half(both, *k)))
         }
         Question::ContainsBorrow { .. } => {
             Outcome::of(original.contains_borrow(&first, &[]).map(u64::from))
@@ -189,10 +176,10 @@ pub fn ask(original: &mut Original, question: &Question) -> Outcome {
     }
 }
 
-fn side(memory: u32, asynchronous: u32) -> Side {
-    Side {
-        memory64: memory != 0,
-        asynchronous: asynchronous != 0,
+fn side_of(side: Side) -> oracle::Side {
+    oracle::Side {
+        memory64: side.memory != 0,
+        asynchronous: side.asynchronous != 0,
     }
 }
 
@@ -204,22 +191,13 @@ fn list_or_memory(flat: Option<Flat>) -> u64 {
     flat.map_or(encode::MEMORY, list)
 }
 
-/// The boundary answers 256 for a flat count of none, 01's row has 255.
-fn type_number(numbers: [u32; 8], k: u32) -> u64 {
-    let number = numbers[(k as usize).min(7)];
-    if k == 4 && number == 255 {
-        256
-    } else {
-        number.into()
-    }
-}
-
+/// The boundary's flat count: 255 is none, and so is what is above, where that is not refused.
 fn flat_count(word: u32) -> Option<u8> {
-    u8::try_from(word).ok()
+    u8::try_from(word).ok().filter(|count| *count != 255)
 }
 
 fn flat_word(count: Option<u8>) -> u64 {
-    count.map_or(256, u64::from)
+    count.map_or(255, u64::from)
 }
 
 fn abi(info: &Info) -> CanonicalAbiInfo {

@@ -97,7 +97,7 @@ impl List {
     /// A description and a question or two about it; nothing if 01 refuses it or it holds a suspect
     /// count.
     fn add(&mut self, words: &[u32], random: &mut Random) {
-        let Ok(n) = model::build(words, &mut vec![0; 16 * model::MOST_ROWS]) else {
+        let Ok(n) = model::build(words, &mut vec![0; model::ROW * model::MOST_ROWS]) else {
             return;
         };
         let definitions = reading::definitions(words, n as usize);

@@ -1,7 +1,8 @@
 //! 01's build: a description's words into a table's rows.
 use super::layout::{self, Memory, TooLarge, Type};
 use super::row::{self, Extra};
-use super::{Answer, MOST_ROWS, MOST_WORDS, ROW, Refused, number};
+use super::table::{Row, capacity, put_row};
+use super::{Answer, MOST_WORDS, Refused, number};
 
 const NO_PAYLOAD: u32 = 4_294_967_295;
 
@@ -14,7 +15,7 @@ pub fn build(words: &[u32], table: &mut [u32]) -> Answer<u64> {
             at: 0,
         });
     }
-    let capacity = (table.len() / ROW).min(MOST_ROWS);
+    let capacity = capacity(table.len());
     let mut types: Vec<Type> = Vec::new();
     let mut rest = words;
     while !rest.is_empty() {
@@ -23,7 +24,7 @@ pub fn build(words: &[u32], table: &mut [u32]) -> Answer<u64> {
             number,
             at: index as u64,
         })?;
-        table[ROW * index..ROW * (index + 1)].copy_from_slice(&row);
+        put_row(table, index, &row);
         types.push(ty);
         rest = &rest[length..];
     }
@@ -32,11 +33,7 @@ pub fn build(words: &[u32], table: &mut [u32]) -> Answer<u64> {
 
 /// One definition's row, type and length in words. "NoRoom, BadKind, Truncated, BadCount, BadRef,
 /// TooLarge", in this order.
-fn definition(
-    words: &[u32],
-    earlier: &[Type],
-    capacity: usize,
-) -> Result<([u32; ROW], Type, usize), u64> {
+fn definition(words: &[u32], earlier: &[Type], capacity: usize) -> Result<(Row, Type, usize), u64> {
     if earlier.len() == capacity {
         return Err(number::NO_ROOM);
     }

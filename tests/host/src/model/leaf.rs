@@ -1,5 +1,6 @@
 //! 01's modules 1 to 3: the leaves, which answer the number alone when they refuse.
-use super::layout::{self, FLAT_MAX, LIMIT, Layout, Memory, TooLarge, Type};
+use super::layout::{self, FLAT_MAX, LIMIT, Memory, TooLarge, Type};
+use super::row::NO_FLAT_COUNT;
 use super::{number, row};
 use crate::calls::{Info, Leaf};
 
@@ -78,24 +79,18 @@ fn max_flat(a: Option<u64>, b: Option<u64>) -> Option<u64> {
     Some(a?.max(b?))
 }
 
-/// The boundary's flat count: 0 to 255 the number, anything above none, answered as 256.
+/// A flat count given to `add_flat` or `max_flat`: 0 to 254 the number, anything above none.
 fn flat_of(word: u32) -> Option<u64> {
-    if word > 255 {
-        None
-    } else {
-        Some(u64::from(word))
-    }
+    Some(u64::from(word)).filter(|count| *count < NO_FLAT_COUNT)
 }
 
-pub fn flat_word(count: Option<u64>) -> u64 {
-    count.unwrap_or(256)
+fn flat_word(count: Option<u64>) -> u64 {
+    count.unwrap_or(NO_FLAT_COUNT)
 }
 
 /// An info as a type, or BadRow. Of its flat types only the number is known and asked for.
 fn type_of(info: &Info) -> Result<Type, u64> {
-    let [size32, align32, size64, align64, flat] = *info;
-    let flat_count = flat_of(flat);
-    let layout: [Layout; 2] = row::layouts([size32, align32, size64, align64], flat_count)?;
+    let (layout, flat_count) = row::five_numbers(*info)?;
     let flat = flat_count.map(|count| {
         let types = vec![layout::Core::I32; count as usize];
         [types.clone(), types]

@@ -11,6 +11,7 @@ mod leaf;
 mod question;
 mod row;
 mod signature;
+mod table;
 
 pub use bytes::{build_bytes, words_of};
 pub use description::build;
@@ -18,6 +19,7 @@ pub use layout::Core;
 pub use leaf::leaf;
 pub use question::ask;
 pub use row::well_formed;
+pub use table::{Row, capacity, row, table_of};
 
 /// A call that was refused: 01's number, and the definition's index or the reference's position.
 #[derive(Clone, Copy, PartialEq, Eq, Debug)]

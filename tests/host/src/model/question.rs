@@ -2,13 +2,19 @@
 use super::layout::{self, Memory, Passes, Type};
 use super::leaf::info_number;
 use super::signature::{self, Side};
-use super::{Answer, MOST_ROWS, MOST_WORDS, ROW, Refused, number, row};
-use crate::calls::{Part, Question};
+use super::table::{self, capacity};
+use super::{Answer, MOST_WORDS, Refused, number, row};
+use crate::calls::{Question, WRITTEN};
 use crate::encode;
 
-/// The boundary's u64 of an answer; a placement's offsets go into `out`, of which every other word is
-/// kept.
-pub fn ask(question: &Question, table: &[u32], n: u32, out: &mut [u32]) -> Answer<u64> {
+/// The boundary's u64 of an answer. A placement's offsets go into the first of the buffers that are
+/// lent to be written; every other word of these is kept.
+pub fn ask(
+    question: &Question,
+    table: &[u32],
+    n: u32,
+    written: [&mut [u32]; WRITTEN],
+) -> Answer<u64> {
     let table = Table { words: table, n };
     match question {
         Question::Type { reference, k } => {
@@ -29,7 +35,10 @@ pub fn ask(question: &Question, table: &[u32], n: u32, out: &mut [u32]) -> Answe
         }
         Question::Placement {
             memory, references, ..
-        } => placement(&table, Memory::of(*memory), references, out),
+        } => {
+            let [offsets, _] = written;
+            placement(&table, Memory::of(*memory), references, offsets)
+        }
         Question::Flatten {
             memory,
             max,
@@ -40,52 +49,39 @@ pub fn ask(question: &Question, table: &[u32], n: u32, out: &mut [u32]) -> Answe
             let flat = signature::flatten(Memory::of(*memory), *max as usize, &lists[0]);
             Ok(encode::list_or_memory(flat))
         }
-        Question::Lowering {
-            memory,
-            asynchronous,
-            references,
-        } => {
+        Question::Lowering { side, references } => {
             let lists = table.read(&[references], None)?;
-            let side = Side::of(*memory, *asynchronous);
-            Ok(encode::list_or_memory(signature::lowering(side, &lists[0])))
+            let flat = signature::lowering(Side::of(*side), &lists[0]);
+            Ok(encode::list_or_memory(flat))
         }
-        Question::Lifting {
-            memory,
-            asynchronous,
-            references,
-        } => {
+        Question::Lifting { side, references } => {
             let lists = table.read(&[references], None)?;
-            let side = Side::of(*memory, *asynchronous);
-            Ok(encode::list_or_memory(signature::lifting(side, &lists[0])))
+            let flat = signature::lifting(Side::of(*side), &lists[0]);
+            Ok(encode::list_or_memory(flat))
         }
         Question::AsyncStart {
-            lower_memory,
-            lower_async,
-            lift_memory,
             lower,
-            lift,
-            part,
+            lift_memory,
+            lower_types,
+            lift_types,
+            k,
         } => {
-            let lists = table.read(&[lower, lift], None)?;
-            let lower_side = Side::of(*lower_memory, *lower_async);
+            let lists = table.read(&[lower_types, lift_types], None)?;
             let lift_memory = Memory::of(*lift_memory);
-            let both = signature::async_start(lower_side, &lists[0], lift_memory, &lists[1]);
-            Ok(encode::list(&both[*part as usize]))
+            let both = signature::async_start(Side::of(*lower), &lists[0], lift_memory, &lists[1]);
+            Ok(encode::list(&encode::half(both, *k)))
         }
         Question::AsyncReturn {
-            lift_memory,
-            lift_async,
-            lower_memory,
-            lower_async,
             lift,
             lower,
-            part,
+            lift_types,
+            lower_types,
+            k,
         } => {
-            let lists = table.read(&[lift, lower], None)?;
-            let lift_side = Side::of(*lift_memory, *lift_async);
-            let lower_side = Side::of(*lower_memory, *lower_async);
-            let both = signature::async_return(lift_side, &lists[0], lower_side, &lists[1]);
-            Ok(encode::list(&both[*part as usize]))
+            let lists = table.read(&[lift_types, lower_types], None)?;
+            let (lift, lower) = (Side::of(*lift), Side::of(*lower));
+            let both = signature::async_return(lift, &lists[0], lower, &lists[1]);
+            Ok(encode::list(&encode::half(both, *k)))
         }
         Question::ContainsBorrow { references } => {
             let lists = table.read(&[references], None)?;
@@ -94,12 +90,14 @@ pub fn ask(question: &Question, table: &[u32], n: u32, out: &mut [u32]) -> Answe
     }
 }
 
-/// The two halves of a signature, as the boundary asks for them.
-const _: () = assert!(Part::Params as usize == 0 && Part::Results as usize == 1);
-
 /// "TooLarge names the first member whose start or end passes, 0 if only the size does."
-fn placement(table: &Table, memory: Memory, references: &[u32], out: &mut [u32]) -> Answer<u64> {
-    let early = (out.len() < references.len()).then_some(number::NO_ROOM);
+fn placement(
+    table: &Table,
+    memory: Memory,
+    references: &[u32],
+    offsets: &mut [u32],
+) -> Answer<u64> {
+    let early = (offsets.len() < references.len()).then_some(number::NO_ROOM);
     let lists = table.read(&[references], early)?;
     let layouts: Vec<_> = lists[0].iter().map(|ty| ty.layout_in(memory)).collect();
     let placed = layout::place(&layouts).map_err(|passes| Refused {
@@ -109,10 +107,10 @@ fn placement(table: &Table, memory: Memory, references: &[u32], out: &mut [u32])
             Passes::Size => 0,
         },
     })?;
-    for (word, start) in out.iter_mut().zip(&placed.starts) {
+    for (word, start) in offsets.iter_mut().zip(&placed.starts) {
         *word = u32::try_from(*start).expect("a start within the limit");
     }
-    Ok(encode::layout(placed.layout.size, placed.layout.align))
+    Ok(encode::placement(placed.layout.size, placed.layout.align))
 }
 
 struct Table<'a> {
@@ -130,8 +128,8 @@ impl Table<'_> {
         if lists.iter().any(|list| list.len() > MOST_WORDS) {
             return refuse(number::TOO_LONG);
         }
-        let rows_wanted = u64::from(self.n);
-        if rows_wanted > MOST_ROWS as u64 || rows_wanted * ROW as u64 > self.words.len() as u64 {
+        // "n above 1,024, or 16n words not there".
+        if self.n as usize > capacity(self.words.len()) {
             return refuse(number::BAD_ROW);
         }
         if let Some(number) = early {
@@ -162,7 +160,6 @@ impl Table<'_> {
         if index >= self.n {
             return Err(number::BAD_REF);
         }
-        let start = ROW * index as usize;
-        row::read(&self.words[start..start + ROW])
+        row::read(&table::row(self.words, index as usize))
     }
 }

@@ -1,7 +1,9 @@
 //! 01's row of sixteen words: how a type is written into one, and how a lent one is read.
 use super::layout::{Core, FLAT_MAX, Flat, Layout, Type};
+use super::table::Row;
 use super::{ROW, number};
 
+/// The flat count of a type that has none, in a row and at the boundary.
 pub const NO_FLAT_COUNT: u64 = 255;
 
 /// What a row has beside the type's own numbers; all 0 where the kind has none of it.
@@ -15,7 +17,7 @@ pub struct Extra {
     pub entry: [u64; 4],
 }
 
-pub fn write(kind: u32, ty: &Type, extra: &Extra) -> [u32; ROW] {
+pub fn write(kind: u32, ty: &Type, extra: &Extra) -> Row {
     let [layout32, layout64] = ty.layout;
     let mut row = [0; ROW];
     row[0] = u64::from(kind);
@@ -62,12 +64,8 @@ fn unpack(word: u32, count: u64) -> Vec<Core> {
 /// A row's type, or BadRow: "A row is well formed when: kind is 1 to 10; alignments are 1, 2, 4 or
 /// 8; each size is a multiple of its alignment; flat count is 0 to 16 or 255; unused flat bits are
 /// zero; word 8 is 0, 1, 2 or 4; word 15 is 0 or 1. Nothing else in a row is tested."
-pub fn read(row: &[u32]) -> Result<Type, u64> {
-    let flat_count = match u64::from(row[5]) {
-        NO_FLAT_COUNT => None,
-        count => Some(count),
-    };
-    let layouts = layouts([row[1], row[2], row[3], row[4]], flat_count)?;
+pub fn read(row: &Row) -> Result<Type, u64> {
+    let (layouts, flat_count) = five_numbers([row[1], row[2], row[3], row[4], row[5]])?;
     let flat = flat_count.map(|count| [unpack(row[6], count), unpack(row[7], count)]);
     let well_formed = (1..=10).contains(&row[0])
         && flat_words(&flat) == [u64::from(row[6]), u64::from(row[7])]
@@ -83,23 +81,24 @@ pub fn read(row: &[u32]) -> Result<Type, u64> {
     })
 }
 
-pub fn well_formed(row: &[u32]) -> bool {
+pub fn well_formed(row: &Row) -> bool {
     read(row).is_ok()
 }
 
-/// The rules for words 1 to 5, which an info given to a leaf must keep as well. `flat_count` is None
-/// for "none".
-pub fn layouts(words: [u32; 4], flat_count: Option<u64>) -> Result<[Layout; 2], u64> {
+/// The rules for words 1 to 5, which an info given to a leaf must keep as well: the layouts, and the flat
+/// count or None.
+pub fn five_numbers(words: [u32; 5]) -> Result<([Layout; 2], Option<u64>), u64> {
     let layout = |size: u32, align: u32| {
         let good = [1, 2, 4, 8].contains(&align) && size % align == 0;
         let (size, align) = (u64::from(size), u64::from(align));
         good.then_some(Layout { size, align })
             .ok_or(number::BAD_ROW)
     };
-    let [size32, align32, size64, align64] = words;
+    let [size32, align32, size64, align64, flat_count] = words;
     let layouts = [layout(size32, align32)?, layout(size64, align64)?];
-    match flat_count {
-        Some(count) if count > FLAT_MAX => Err(number::BAD_ROW),
-        _ => Ok(layouts),
+    match u64::from(flat_count) {
+        NO_FLAT_COUNT => Ok((layouts, None)),
+        count if count <= FLAT_MAX => Ok((layouts, Some(count))),
+        _ => Err(number::BAD_ROW),
     }
 }

@@ -1,5 +1,6 @@
 //! 01's module 6: flattening and the core signatures.
 use super::layout::{Core, Memory, Type};
+use crate::calls;
 
 #[derive(Clone, Copy)]
 pub struct Side {
@@ -9,10 +10,10 @@ pub struct Side {
 
 impl Side {
     /// The boundary's words: async is 0 for sync, any other for async.
-    pub fn of(memory: u32, asynchronous: u32) -> Side {
+    pub fn of(side: calls::Side) -> Side {
         Side {
-            memory: Memory::of(memory),
-            asynchronous: asynchronous != 0,
+            memory: Memory::of(side.memory),
+            asynchronous: side.asynchronous != 0,
         }
     }
 }

@@ -1,6 +1,9 @@
 //! One call of the boundary as numbers and lent memory.
-use crate::calls::{Leaf, Part, Question};
+pub use crate::calls::WRITTEN;
+use crate::calls::{Leaf, Question};
+use crate::compare::GUARD;
 use std::fmt;
+use std::ops::Range;
 
 /// The functions of the boundary. The numbers are `emulated/server.c`'s too.
 #[derive(Clone, Copy, PartialEq, Eq, Debug)]
@@ -24,11 +27,9 @@ pub enum Function {
     Flatten = 15,
     Lowering = 16,
     Lifting = 17,
-    AsyncStartParams = 18,
-    AsyncStartResults = 19,
-    AsyncReturnParams = 20,
-    AsyncReturnResults = 21,
-    ContainsBorrow = 22,
+    AsyncStart = 18,
+    AsyncReturn = 19,
+    ContainsBorrow = 20,
 }
 
 impl Function {
@@ -36,9 +37,30 @@ impl Function {
     pub fn is_lent_memory(self) -> bool {
         self as u32 >= Function::Record as u32
     }
+
+    /// Whether it is put to a table.
+    pub fn is_question(self) -> bool {
+        self as u32 > Function::Build as u32
+    }
+
+    /// Of a function that answers one of several numbers: which of its own numbers is the k that
+    /// chooses, and the last one that k can choose.
+    pub fn choice(self) -> Option<(usize, u32)> {
+        match self {
+            Function::NextField => Some((7, 1)),
+            Function::Flags | Function::Enum => Some((1, 4)),
+            Function::FixedLengthList => Some((6, 4)),
+            Function::Record => Some((0, 4)),
+            Function::Variant => Some((0, 7)),
+            Function::Type => Some((2, 7)),
+            Function::AsyncStart => Some((4, 1)),
+            Function::AsyncReturn => Some((5, 1)),
+            _ => None,
+        }
+    }
 }
 
-/// The most numbers and the most slices that a call takes.
+/// The most numbers and the most slices to read that a call takes.
 pub const NUMBERS: usize = 8;
 pub const SLICES: usize = 3;
 
@@ -49,8 +71,8 @@ pub enum Cell {
     Byte,
 }
 
-/// A call: its numbers in order without the slices' lengths, and its slices in order without the one
-/// that is written. Memory is held as bytes; words are little-endian ones at a multiple of four.
+/// A call: its numbers in order without the slices' lengths, and its slices in order without those
+/// that are written. Memory is held as bytes; words are little-endian ones at a multiple of four.
 #[derive(Clone)]
 pub struct Call<'a> {
     pub function: Function,
@@ -59,11 +81,27 @@ pub struct Call<'a> {
     pub slices: [&'a [u8]; SLICES],
 }
 
-/// The memory that a call is lent to write: some bytes with guards around them.
+/// A buffer that a call is lent to write, as bytes with guards before and after: as it is before the
+/// call and as it must be afterwards. Both are empty where there is no such buffer.
+#[derive(Clone, Copy)]
 pub struct Lent<'a> {
-    pub whole: &'a [u8],
-    pub start: usize,
-    pub length: usize,
+    pub before: &'a [u8],
+    pub expected: &'a [u8],
+}
+
+impl Lent<'_> {
+    /// What the call is lent, without the guards.
+    pub fn part(&self) -> Range<usize> {
+        let guard = if self.before.is_empty() { 0 } else { 4 * GUARD };
+        guard..self.before.len() - guard
+    }
+}
+
+/// What a call must answer, and the buffers that it is lent to write.
+#[derive(Clone, Copy)]
+pub struct Due<'a> {
+    pub answer: u64,
+    pub written: [Lent<'a>; WRITTEN],
 }
 
 impl fmt::Debug for Call<'_> {
@@ -92,7 +130,7 @@ fn numbers(given: &[u32]) -> [u32; NUMBERS] {
 
 /// A leaf; `infos` is the memory of those that take infos or cases.
 pub fn leaf<'a>(leaf: &Leaf, cell: Cell, infos: &'a [u8]) -> Call<'a> {
-    let (function, given) = match *leaf {
+    let (function, numbers) = match *leaf {
         Leaf::AlignTo(a, b) => (Function::AlignTo, numbers(&[a, b])),
         Leaf::Max(a, b) => (Function::Max, numbers(&[a, b])),
         Leaf::AddFlat(a, b) => (Function::AddFlat, numbers(&[a, b])),
@@ -123,7 +161,7 @@ pub fn leaf<'a>(leaf: &Leaf, cell: Cell, infos: &'a [u8]) -> Call<'a> {
     Call {
         function,
         cell,
-        numbers: given,
+        numbers,
         slices: [infos, &[], &[]],
     }
 }
@@ -145,58 +183,41 @@ pub fn question<'a>(
     n: u32,
     lists: [&'a [u8]; 2],
 ) -> Call<'a> {
-    let (function, given) = match *question {
+    let (function, numbers) = match *question {
         Question::Type { reference, k } => (Function::Type, numbers(&[n, reference, k])),
         Question::SizeAlign { memory, reference } => {
             (Function::SizeAlign, numbers(&[memory, n, reference]))
         }
         Question::Placement { memory, .. } => (Function::Placement, numbers(&[memory, n])),
         Question::Flatten { memory, max, .. } => (Function::Flatten, numbers(&[memory, max, n])),
-        Question::Lowering {
-            memory,
-            asynchronous,
-            ..
-        } => (Function::Lowering, numbers(&[memory, asynchronous, n])),
-        Question::Lifting {
-            memory,
-            asynchronous,
-            ..
-        } => (Function::Lifting, numbers(&[memory, asynchronous, n])),
-        Question::AsyncStart {
-            lower_memory,
-            lower_async,
-            lift_memory,
-            part,
-            ..
-        } => {
-            let function = match part {
-                Part::Params => Function::AsyncStartParams,
-                Part::Results => Function::AsyncStartResults,
-            };
-            let given = [lower_memory, lower_async, lift_memory, n];
-            (function, numbers(&given))
+        Question::Lowering { side, .. } => {
+            let given = [side.memory, side.asynchronous, n];
+            (Function::Lowering, numbers(&given))
         }
-        Question::AsyncReturn {
+        Question::Lifting { side, .. } => {
+            let given = [side.memory, side.asynchronous, n];
+            (Function::Lifting, numbers(&given))
+        }
+        Question::AsyncStart {
+            lower,
             lift_memory,
-            lift_async,
-            lower_memory,
-            lower_async,
-            part,
+            k,
             ..
         } => {
-            let function = match part {
-                Part::Params => Function::AsyncReturnParams,
-                Part::Results => Function::AsyncReturnResults,
-            };
-            let given = [lift_memory, lift_async, lower_memory, lower_async, n];
-            (function, numbers(&given))
+            let given = [lower.memory, lower.asynchronous, lift_memory, n, k];
+            (Function::AsyncStart, numbers(&given))
+        }
+        Question::AsyncReturn { lift, lower, k, .. } => {
+            let (lift, lift_async) = (lift.memory, lift.asynchronous);
+            let given = [lift, lift_async, lower.memory, lower.asynchronous, n, k];
+            (Function::AsyncReturn, numbers(&given))
         }
         Question::ContainsBorrow { .. } => (Function::ContainsBorrow, numbers(&[n])),
     };
     Call {
         function,
         cell,
-        numbers: given,
+        numbers,
         slices: [table, lists[0], lists[1]],
     }
 }

@@ -1,13 +1,15 @@
 //! The port in a program of its own, under an emulator: `emulated/server.c`, which links the static library
 //! and tells the format of what goes over its standard input and output.
-use super::call::{NUMBERS, SLICES};
-use super::{Answered, Call, Cell, Function, Lent};
+use super::call::{NUMBERS, SLICES, WRITTEN};
+use super::{Answered, Call, Cell, Due, Function, Lent};
+use crate::compare::bytes_of;
 use std::io::{self, Read, Write};
 use std::process::{Child, ChildStdin, ChildStdout, Command, Stdio};
 
 /// A batch is sent when it has so many bytes.
 const BATCH: usize = 4 << 20;
-const HEADER: usize = 64;
+/// The words of a request's header, and one to make their bytes a multiple of eight.
+const HEADER: usize = 2 + NUMBERS + SLICES + 3 * WRITTEN + 1;
 
 pub struct Port {
     _server: Child,
@@ -17,13 +19,13 @@ pub struct Port {
     waiting: Vec<Waiting>,
 }
 
-/// A call in the batch: where its request begins, and what it should answer.
+/// A call in the batch: where its request begins, and what is due.
 struct Waiting {
     function: Function,
     cell: Cell,
     request: usize,
     expected_answer: u64,
-    expected_after: Vec<u8>,
+    expected_after: [Vec<u8>; WRITTEN],
 }
 
 impl Port {
@@ -50,20 +52,13 @@ impl Port {
     }
 
     /// Puts the call into the batch, and sends that when it is full.
-    pub fn call<'a>(
-        &mut self,
-        call: Call<'a>,
-        lent: Lent<'_>,
-        expected_answer: u64,
-        expected_after: &'a [u8],
-        answered: &mut dyn FnMut(Answered),
-    ) {
+    pub fn call(&mut self, call: Call, due: Due, answered: &mut dyn FnMut(Answered)) {
         self.waiting.push(Waiting {
             function: call.function,
             cell: call.cell,
             request: self.batch.len(),
-            expected_answer,
-            expected_after: expected_after.to_vec(),
+            expected_answer: due.answer,
+            expected_after: due.written.map(|lent| lent.expected.to_vec()),
         });
         let unit: u32 = match call.cell {
             Cell::Word => 4,
@@ -72,9 +67,14 @@ impl Port {
         let mut header = vec![call.function as u32, unit];
         header.extend(call.numbers);
         header.extend(call.slices.map(|slice| slice.len() as u32));
-        header.extend([lent.whole.len(), lent.start, lent.length].map(|x| x as u32));
-        self.batch.extend(crate::compare::bytes_of(&header));
-        for memory in call.slices.into_iter().chain([lent.whole]) {
+        for lent in due.written {
+            let part = lent.part();
+            header.extend([lent.before.len(), part.start, part.len()].map(|x| x as u32));
+        }
+        header.resize(HEADER, 0);
+        self.batch.extend(bytes_of(&header));
+        let written = due.written.map(|lent| lent.before);
+        for memory in call.slices.into_iter().chain(written) {
             self.batch.extend(memory);
             self.batch.resize(self.batch.len().next_multiple_of(8), 0);
         }
@@ -97,16 +97,13 @@ impl Port {
         sent.unwrap_or_else(|error| gone(&error));
         for waiting in std::mem::take(&mut self.waiting) {
             let answer = u64::from_le_bytes(self.read(8).try_into().expect("eight bytes"));
-            let length = waiting.expected_after.len();
-            let mut after = self.read(length.next_multiple_of(8));
-            after.truncate(length);
-            answered(Answered {
-                call: waiting.call(&self.batch[waiting.request..]),
-                answer,
-                after,
-                expected_answer: waiting.expected_answer,
-                expected_after: &waiting.expected_after,
+            let after = waiting.expected_after.each_ref().map(|expected| {
+                let mut after = self.read(expected.len().next_multiple_of(8));
+                after.truncate(expected.len());
+                after
             });
+            let call = waiting.call(&self.batch[waiting.request..]);
+            answered(Answered::new(call, answer, after, waiting.due()));
         }
         self.batch.clear();
     }
@@ -126,6 +123,17 @@ fn gone(error: &io::Error) -> ! {
 }
 
 impl Waiting {
+    /// What was due; the buffers as they were before the call are in its request alone.
+    fn due(&self) -> Due<'_> {
+        Due {
+            answer: self.expected_answer,
+            written: self.expected_after.each_ref().map(|expected| Lent {
+                before: &[],
+                expected,
+            }),
+        }
+    }
+
     /// The call again, from its request.
     fn call<'a>(&self, request: &'a [u8]) -> Call<'a> {
         let word = |place: usize| {
@@ -133,7 +141,7 @@ impl Waiting {
             u32::from_le_bytes(four.try_into().expect("four bytes"))
         };
         let numbers = std::array::from_fn(|place| word(2 + place));
-        let mut at = HEADER;
+        let mut at = 4 * HEADER;
         let slices: [&[u8]; SLICES] = std::array::from_fn(|place| {
             let length = word(2 + NUMBERS + place) as usize;
             let slice = &request[at..at + length];

@@ -2,10 +2,9 @@
 //! buffer and 16,385 references: it must answer as if it had looked at all. Each call is made over bytes
 //! too.
 use super::questions;
-use crate::calls::Question;
 use crate::compare::{Run, Subject};
 use crate::generate;
-use crate::model::{MOST_ROWS, MOST_WORDS, ROW};
+use crate::model::{MOST_ROWS, MOST_WORDS, ROW, Row, table_of};
 
 /// Lengths in words around the limit and well beyond it.
 const LENGTHS: [usize; 8] = [
@@ -30,15 +29,15 @@ pub fn run(run: &mut Run) {
 
 /// Each table with every number of rows that could be taken for good.
 fn tables(run: &mut Run) {
-    let rows: Vec<u32> = (0..LENGTHS[7].div_ceil(ROW))
-        .flat_map(|_| generate::row(&mut run.random))
+    let rows: Vec<Row> = (0..LENGTHS[7].div_ceil(ROW))
+        .map(|_| generate::row(&mut run.random))
         .collect();
     let last = 64 + MOST_ROWS as u32 - 1;
     let references = [12, 64, last - 1, last, last + 1, 64 + 1_249];
     for length in LENGTHS {
         let there = (length / ROW) as u32;
         for n in [0, 1, 1_023, 1_024, 1_025, there, there + 1, u32::MAX] {
-            let mut subject = run.forged(rows[..length].to_vec(), n);
+            let mut subject = run.forged(table_of(&rows, length), n);
             let asked = match run.quick {
                 true => vec![run.random.pick(&references)],
                 false => references.to_vec(),
@@ -88,13 +87,7 @@ fn buffers(run: &mut Run) {
             // The last one's end passes 4 GiB after 16,383 of them.
             for member in [2, 12, 64, 65] {
                 for memory in [0, 1] {
-                    let references = vec![member; count];
-                    let question = Question::Placement {
-                        memory,
-                        references,
-                        room,
-                    };
-                    run.ask(subject, &question);
+                    questions::placement_in(run, subject, memory, &vec![member; count], room);
                 }
             }
         }

@@ -1,8 +1,8 @@
 //! 01's examples, with 01's own numbers written out. What the three say is compared as anywhere; here
 //! the model's answers are held to the paper too.
-use crate::calls::{PARTS, Part, Question};
+use crate::calls::{Question, Side};
 use crate::compare::{Built, Run};
-use crate::encode;
+use crate::{encode, model};
 
 const U8: u32 = 2;
 const U16: u32 = 4;
@@ -92,43 +92,48 @@ fn large(run: &mut Run) {
     refused(run, &[10, U8, 4_294_967_295, 8, 64], 6, 1);
 }
 
+/// Lift sync in a 64-bit memory, lower async in a 32-bit one.
+const LIFT: Side = Side {
+    memory: 1,
+    asynchronous: 0,
+};
+const LOWER: Side = Side {
+    memory: 0,
+    asynchronous: 1,
+};
+
 fn signatures(run: &mut Run) {
     // "Async start, five U32, lower async: one pointer; four: I32 four times."
     let mut built = accepted(run, &[], 0);
     for (count, list) in [(5, 1), (4, 4)] {
         let question = Question::AsyncStart {
-            lower_memory: 0,
-            lower_async: 1,
+            lower: LOWER,
             lift_memory: 0,
-            lower: vec![U32; count],
-            lift: vec![],
-            part: Part::Params,
+            lower_types: vec![U32; count],
+            lift_types: vec![],
+            k: 0,
         };
         answer_is(run, &mut built, &question, encode::flat(list, 0));
     }
     // "Async return, lift sync 64, lower async 32, one U32 each: parameters I32 I64, no results."
-    for (part, list) in PARTS.into_iter().zip([encode::flat(2, 0b01_00), 0]) {
+    for (k, list) in [(0, encode::flat(2, 0b01_00)), (1, 0)] {
         let question = Question::AsyncReturn {
-            lift_memory: 1,
-            lift_async: 0,
-            lower_memory: 0,
-            lower_async: 1,
-            lift: vec![U32],
-            lower: vec![U32],
-            part,
+            lift: LIFT,
+            lower: LOWER,
+            lift_types: vec![U32],
+            lower_types: vec![U32],
+            k,
         };
         answer_is(run, &mut built, &question, list);
     }
     // "Dropping an empty result record in async return: the list is not empty."
     let mut built = accepted(run, &[1, 0], 1);
     let question = Question::AsyncReturn {
-        lift_memory: 1,
-        lift_async: 0,
-        lower_memory: 0,
-        lower_async: 1,
-        lift: vec![],
-        lower: vec![64],
-        part: Part::Params,
+        lift: LIFT,
+        lower: LOWER,
+        lift_types: vec![],
+        lower_types: vec![64],
+        k: 0,
     };
     answer_is(run, &mut built, &question, encode::flat(1, 1));
 }
@@ -152,26 +157,24 @@ fn refused(run: &mut Run, words: &[u32], number: u64, index: u64) {
 }
 
 fn row_is(run: &mut Run, built: &Built, row: usize, words: &[usize], numbers: &[u32]) {
-    let table = &built.subject.table;
-    let found: Vec<u32> = words.iter().map(|word| table[16 * row + word]).collect();
+    let whole = model::row(&built.subject.table, row);
+    let found: Vec<u32> = words.iter().map(|word| whole[*word]).collect();
     run.tally.consistent(found == numbers, || {
         format!("01's example: words {words:?} of row {row} are {numbers:?}, the model's {found:?}")
     });
 }
 
-fn answer_is(run: &mut Run, built: &mut Built, question: &Question, answer: u64) {
+/// Asks, and holds the model's answer to the paper; what the model writes into a placement's buffer.
+fn answer_is(run: &mut Run, built: &mut Built, question: &Question, answer: u64) -> Vec<u32> {
     run.ask(&mut built.subject, question);
     let subject = &built.subject;
-    let mut out = vec![0; question.room()];
-    let said = encode::answer(crate::model::ask(
-        question,
-        &subject.table,
-        subject.n,
-        &mut out,
-    ));
+    let mut offsets = vec![0; question.rooms()[0].unwrap_or(0)];
+    let written = [&mut offsets[..], &mut []];
+    let said = encode::answer(model::ask(question, &subject.table, subject.n, written));
     run.tally.consistent(said == answer, || {
         format!("01's example {question:?} is {answer:#x}; the model says {said:#x}")
     });
+    offsets
 }
 
 fn placement_is(
@@ -187,11 +190,8 @@ fn placement_is(
         references: references.to_vec(),
         room: references.len(),
     };
-    answer_is(run, built, &question, encode::layout(size, align));
-    let mut out = vec![0; offsets.len()];
-    let subject = &built.subject;
-    let _ = crate::model::ask(&question, &subject.table, subject.n, &mut out);
-    run.tally.consistent(out == offsets, || {
-        format!("01's example {question:?} has offsets {offsets:?}; the model says {out:?}")
+    let said = answer_is(run, built, &question, encode::placement(size, align));
+    run.tally.consistent(said == offsets, || {
+        format!("01's example {question:?} has offsets {offsets:?}; the model says {said:?}")
     });
 }

@@ -3,11 +3,11 @@ use crate::calls::{Info, Leaf};
 use crate::compare::Run;
 use crate::generate;
 
-/// Flat counts that the boundary tells apart, and some above.
-const FLAT_COUNTS: [u32; 4] = [257, 300, 65_536, u32::MAX];
+/// Flat counts well above the last that the boundary tells apart.
+const LARGE_COUNTS: [u32; 4] = [257, 300, 65_536, u32::MAX];
 
 pub fn numbers(run: &mut Run) {
-    let flats: Vec<u32> = (0..=256).chain(FLAT_COUNTS).collect();
+    let flats: Vec<u32> = (0..=256).chain(LARGE_COUNTS).collect();
     for a in &flats {
         for b in &flats {
             run.leaf(&Leaf::AddFlat(*a, *b));
@@ -45,25 +45,85 @@ fn places() -> Vec<u32> {
     places
 }
 
+/// A good info, a String's.
+const GOOD: Info = [8, 4, 16, 8, 2];
+
 pub fn infos(run: &mut Run) {
     next_fields(run);
     // Every word of an info by itself, against a good one.
-    for place in 0..5 {
+    for place in 0..4 {
         for word in (0..10).chain([12, 16, 17, 18, 255, 256, 257, u32::MAX]) {
-            let mut info: Info = [8, 4, 16, 8, 2];
+            let mut info = GOOD;
             info[place] = word;
             every_leaf_of(run, info);
         }
     }
+    // Every flat count: 0 to 16, 255 for none, and all those that are bad.
+    for flat in (0..=260).chain(LARGE_COUNTS) {
+        let mut info = GOOD;
+        info[4] = flat;
+        every_leaf_of(run, info);
+    }
     random_infos(run);
+    lists_of_each_length(run);
     slices_of_infos(run);
+}
+
+/// Lists of 1 to 20 infos, where the port may go another way for short ones: good ones, one bad or large one at
+/// each place, and two bad ones of which the first is told.
+fn lists_of_each_length(run: &mut Run) {
+    let odd: [Info; 8] = [
+        [8, 3, 16, 8, 2],
+        [9, 4, 16, 8, 2],
+        [8, 4, 16, 8, 17],
+        [8, 4, 16, 8, 254],
+        [8, 4, 16, 8, 256],
+        [8, 4, 16, 8, 255],
+        [u32::MAX, 1, 0, 1, 0],
+        [0, 1, u32::MAX - 7, 8, 0],
+    ];
+    for length in 1..=20 {
+        let mut list: Vec<Info> = Vec::new();
+        while list.len() < length {
+            let info = generate::info(&mut run.random);
+            list.push(
+                match generate::is_good(&info) && info[0] < 1 << 20 && info[2] < 1 << 20 {
+                    true => info,
+                    false => GOOD,
+                },
+            );
+        }
+        list_of(run, &list);
+        for place in 0..length {
+            for info in odd {
+                let mut list = list.clone();
+                list[place] = info;
+                list_of(run, &list);
+            }
+        }
+        // Too large comes after every bad info, wherever that stands.
+        let mut list = list.clone();
+        list[0] = odd[6];
+        list[length - 1] = odd[2];
+        list_of(run, &list);
+    }
+}
+
+/// The record of a list of infos, and the variant whose cases have them.
+fn list_of(run: &mut Run, infos: &[Info]) {
+    record(run, infos.concat());
+    let case = |info: &Info| [&[1], &info[..]].concat();
+    variant(run, infos.iter().flat_map(case).collect());
 }
 
 fn random_infos(run: &mut Run) {
     for _ in 0..run.cases {
         let info = generate::info(&mut run.random);
         every_leaf_of(run, info);
-        let many = run.random.below(8);
+        let many = match run.random.once_in(8) {
+            true => run.random.below(24),
+            false => run.random.below(8),
+        };
         let mut infos = Vec::new();
         for _ in 0..many {
             infos.extend(generate::info(&mut run.random));
@@ -132,7 +192,7 @@ fn every_leaf_of(run: &mut Run, info: Info) {
         true => run.random.below(64) as u32,
         false => run.random.word(),
     };
-    for k in 0..2 {
+    for k in 0..3 {
         run.leaf(&Leaf::NextField {
             memory,
             info,

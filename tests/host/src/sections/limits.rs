@@ -1,6 +1,6 @@
 //! Every limit: words, rows, depth, references, buffers, bytes.
 use super::questions;
-use crate::calls::{PARTS, Question};
+use crate::calls::{Question, Side};
 use crate::compare::{Run, Subject, bytes_of};
 use crate::generate::{self, Shape};
 use crate::model::{MOST_ROWS, MOST_WORDS, ROW};
@@ -206,29 +206,25 @@ fn many_rooms(run: &mut Run, subject: &mut Subject, references: &[u32]) {
         length + 100,
     ] {
         for memory in [0, 1] {
-            let references = references.to_vec();
-            run.ask(
-                subject,
-                &Question::Placement {
-                    memory,
-                    references,
-                    room,
-                },
-            );
+            questions::placement_in(run, subject, memory, references, room);
         }
     }
-    for part in PARTS {
-        run.ask(
-            subject,
-            &Question::AsyncReturn {
-                lift_memory: 1,
-                lift_async: 1,
-                lower_memory: 0,
-                lower_async: 0,
-                lift: references.to_vec(),
-                lower: references.to_vec(),
-                part,
-            },
-        );
+    for k in [0, 1] {
+        let lift = Side {
+            memory: 1,
+            asynchronous: 1,
+        };
+        let lower = Side {
+            memory: 0,
+            asynchronous: 0,
+        };
+        let question = Question::AsyncReturn {
+            lift,
+            lower,
+            lift_types: references.to_vec(),
+            lower_types: references.to_vec(),
+            k,
+        };
+        run.ask(subject, &question);
     }
 }

@@ -1,5 +1,5 @@
 //! Questions put to a table: every kind, both memories, both async settings.
-use crate::calls::{PARTS, Question};
+use crate::calls::{Question, Side};
 use crate::compare::{Run, Subject};
 use crate::generate;
 
@@ -63,66 +63,70 @@ pub fn lists(run: &mut Run, subject: &mut Subject, first: &[u32], second: &[u32]
             );
         }
         for asynchronous in [0, 1] {
-            let references = || first.to_vec();
-            run.ask(
-                subject,
-                &Question::Lowering {
-                    memory,
-                    asynchronous,
-                    references: references(),
-                },
-            );
-            run.ask(
-                subject,
-                &Question::Lifting {
-                    memory,
-                    asynchronous,
-                    references: references(),
-                },
-            );
-            signatures(run, subject, memory, asynchronous, first, second);
+            let side = Side {
+                memory,
+                asynchronous,
+            };
+            let references = first.to_vec();
+            run.ask(subject, &Question::Lowering { side, references });
+            let references = first.to_vec();
+            run.ask(subject, &Question::Lifting { side, references });
+            signatures(run, subject, side, first, second);
         }
     }
 }
 
-/// Both async signatures, this memory and setting on the first list's side; all settings of the other
-/// side over short lists, one of them over long ones.
-fn signatures(
-    run: &mut Run,
-    subject: &mut Subject,
-    memory: u32,
-    asynchronous: u32,
-    first: &[u32],
-    second: &[u32],
-) {
+/// Both async signatures, the first list on this side; all settings of the other side over short lists, one
+/// of them over long ones.
+fn signatures(run: &mut Run, subject: &mut Subject, side: Side, first: &[u32], second: &[u32]) {
     let yes = run.random.pick(&[1, 1, 2, 64, u32::MAX]);
     let mut settings = vec![(0, 0), (0, yes), (yes, 0), (yes, yes)];
     if first.len() + second.len() > 8 {
         settings = vec![run.random.pick(&settings)];
     }
-    for (other_memory, other_async) in settings {
-        for part in PARTS {
+    for (memory, asynchronous) in settings {
+        // The parameters, and the results by 1 or by a number above it.
+        let results = run.random.pick(&[1, 1, 1, 2, u32::MAX]);
+        for k in [0, results] {
             let start = Question::AsyncStart {
-                lower_memory: memory,
-                lower_async: asynchronous,
-                lift_memory: other_memory,
-                lower: first.to_vec(),
-                lift: second.to_vec(),
-                part,
+                lower: side,
+                lift_memory: memory,
+                lower_types: first.to_vec(),
+                lift_types: second.to_vec(),
+                k,
             };
             run.ask(subject, &start);
+            let other = Side {
+                memory,
+                asynchronous,
+            };
             let back = Question::AsyncReturn {
-                lift_memory: memory,
-                lift_async: asynchronous,
-                lower_memory: other_memory,
-                lower_async: other_async,
-                lift: first.to_vec(),
-                lower: second.to_vec(),
-                part,
+                lift: side,
+                lower: other,
+                lift_types: first.to_vec(),
+                lower_types: second.to_vec(),
+                k,
             };
             run.ask(subject, &back);
         }
     }
+}
+
+/// One placement, in a buffer of so many words.
+pub fn placement_in(
+    run: &mut Run,
+    subject: &mut Subject,
+    memory: u32,
+    references: &[u32],
+    room: usize,
+) {
+    let references = references.to_vec();
+    let question = Question::Placement {
+        memory,
+        references,
+        room,
+    };
+    run.ask(subject, &question);
 }
 
 /// A buffer as long as the references, and one a little shorter or longer.
@@ -132,13 +136,6 @@ fn placement(run: &mut Run, subject: &mut Subject, memory: u32, references: &[u3
         .random
         .pick(&[length.saturating_sub(1), length + 1, length + 3, length / 2]);
     for room in [length, other] {
-        run.ask(
-            subject,
-            &Question::Placement {
-                memory,
-                references: references.to_vec(),
-                room,
-            },
-        );
+        placement_in(run, subject, memory, references, room);
     }
 }

@@ -2,6 +2,7 @@
 use super::questions;
 use crate::compare::Run;
 use crate::generate::{self, Shape};
+use crate::model::ROW;
 
 pub fn run(run: &mut Run) {
     for _ in 0..run.cases {
@@ -32,8 +33,9 @@ pub fn run(run: &mut Run) {
 
 /// Tables exactly full, one word short, one long, and of any length up to that.
 fn rooms(run: &mut Run, words: &[u32], rows: usize) {
-    let any = run.random.below(16 * rows as u64 + 20) as usize;
-    for room in [16 * rows, (16 * rows).saturating_sub(1), 16 * rows + 1, any] {
+    let full = ROW * rows;
+    let any = run.random.below(full as u64 + 20) as usize;
+    for room in [full, full.saturating_sub(1), full + 1, any] {
         run.build_in(words, room);
     }
 }

@@ -1,6 +1,7 @@
 //! Short descriptions, all of them.
 use super::questions;
 use crate::compare::Run;
+use crate::model::ROW;
 
 /// U32, U64, Float32, Float64 and String: every core type, and one that depends on the memory.
 const FLAT_ALPHABET: [u32; 5] = [6, 8, 9, 10, 12];
@@ -75,8 +76,8 @@ fn each(run: &mut Run, alphabet: &[u32], length: u32) {
         let mut built = run.description(&words);
         // In the table exactly as long, one word short and one long, and with questions, now and then.
         if run.random.once_in(128) {
-            let rows = built.subject.n as usize;
-            for room in [16 * rows, (16 * rows).saturating_sub(1), 16 * rows + 1] {
+            let full = ROW * built.subject.n as usize;
+            for room in [full, full.saturating_sub(1), full + 1] {
                 run.build_in(&words, room);
             }
             questions::some(run, &mut built.subject);

@@ -1,7 +1,6 @@
 //! Sizes around 4 GiB: first a type that leaves a few bytes to the limit, then every way to build on
 //! it and to place it.
 use super::questions;
-use crate::calls::Question;
 use crate::compare::Run;
 use crate::random::Random;
 
@@ -74,12 +73,7 @@ fn random_sums(run: &mut Run) {
         });
         let mut built = run.description(&words);
         for memory in [0, 1] {
-            let question = Question::Placement {
-                memory,
-                references: members.clone(),
-                room: members.len(),
-            };
-            run.ask(&mut built.subject, &question);
+            questions::placement_in(run, &mut built.subject, memory, &members, members.len());
         }
     }
 }
@@ -169,16 +163,7 @@ fn placements(run: &mut Run, base: &[u32]) {
     }
     for references in lists {
         for memory in [0, 1] {
-            let references = references.clone();
-            let room = references.len();
-            run.ask(
-                subject,
-                &Question::Placement {
-                    memory,
-                    references,
-                    room,
-                },
-            );
+            questions::placement_in(run, subject, memory, &references, references.len());
         }
     }
     // Signatures do not look at sizes.

@@ -3,30 +3,36 @@ use super::questions;
 use crate::calls::Question;
 use crate::compare::Run;
 use crate::generate::{self, Shape};
-use crate::model::{MOST_ROWS, ROW};
+use crate::model::{self, MOST_ROWS, ROW, Row, capacity, table_of};
 
 pub fn run(run: &mut Run) {
     each_word(run);
     for _ in 0..run.cases / 4 {
         let rows = run.random.below(6);
-        let table = rows_of(run, rows);
-        let mut subject = run.forged(table, rows as u32);
+        let rows = rows_of(run, rows);
+        let mut subject = run.forged(exact(&rows), rows.len() as u32);
         questions::some(run, &mut subject);
         let rows = run.random.between(1, 4);
-        let table = rows_of(run, rows);
-        one_word_changed(run, table);
+        let rows = rows_of(run, rows);
+        one_word_changed(run, &rows);
         built_and_changed(run);
     }
     numbers_of_rows(run);
 }
 
-fn one_word_changed(run: &mut Run, mut table: Vec<u32>) {
+/// The table of these rows and no more.
+fn exact(rows: &[Row]) -> Vec<u32> {
+    table_of(rows, ROW * rows.len())
+}
+
+fn one_word_changed(run: &mut Run, rows: &[Row]) {
+    let mut table = exact(rows);
     let place = run.random.below(table.len() as u64) as usize;
     table[place] = match run.random.once_in(2) {
         true => generate::any_word(&mut run.random),
         false => table[place] ^ 1 << run.random.below(32),
     };
-    let rows = (table.len() / ROW) as u32;
+    let rows = capacity(table.len()) as u32;
     // Now and then another number of rows: fewer, or more than there are.
     let n = match run.random.once_in(4) {
         true => run.random.below(u64::from(rows) + 2) as u32,
@@ -45,26 +51,26 @@ fn built_and_changed(run: &mut Run) {
     };
     let words = generate::description(&mut run.random, shape);
     let built = run.description(&words);
-    let rows = built.subject.n as usize;
-    if rows > 0 {
-        one_word_changed(run, built.subject.table[..ROW * rows].to_vec());
+    let table = &built.subject.table;
+    let rows = (0..built.subject.n as usize).map(|index| model::row(table, index));
+    let rows: Vec<Row> = rows.collect();
+    if !rows.is_empty() {
+        one_word_changed(run, &rows);
     }
 }
 
-fn rows_of(run: &mut Run, rows: u64) -> Vec<u32> {
-    (0..rows)
-        .flat_map(|_| generate::row(&mut run.random))
-        .collect()
+fn rows_of(run: &mut Run, rows: u64) -> Vec<Row> {
+    (0..rows).map(|_| generate::row(&mut run.random)).collect()
 }
 
 /// Well-formed rows: five flat types, three, sixteen, and none.
-const GOOD: [[u32; ROW]; 4] = [
+const GOOD: [Row; 4] = [
     [1, 16, 4, 24, 8, 5, 0, 0x15, 0, 0, 0, 0, 0, 0, 0, 1],
     [9, 16, 8, 24, 8, 3, 4, 20, 1, 8, 8, 0, 0, 0, 0, 0],
     SIXTEEN,
     [4, 68, 4, 68, 4, 255, 0, 0, 0, 0, 0, 0, 0, 0, 0, 0],
 ];
-const SIXTEEN: [u32; ROW] = {
+const SIXTEEN: Row = {
     let mut row = [10, 64, 4, 64, 4, 16, 0, 0, 0, 0, 0, 0, 0, 0, 0, 0];
     (row[6], row[7]) = (0xAAAA_AAAA, u32::MAX);
     row
@@ -79,9 +85,9 @@ fn each_word(run: &mut Run) {
     for row in GOOD {
         for place in 0..ROW {
             for value in &values {
-                let mut table = row.to_vec();
-                table[place] = *value;
-                let mut subject = run.forged(table, 1);
+                let mut row = row;
+                row[place] = *value;
+                let mut subject = run.forged(exact(&[row]), 1);
                 for k in 0..8 {
                     let reference = 64;
                     run.ask(&mut subject, &Question::Type { reference, k });
@@ -94,14 +100,13 @@ fn each_word(run: &mut Run) {
 }
 
 /// Each flat count with each bit of the flat words set by itself.
-fn each_flat_bit(run: &mut Run, row: [u32; ROW]) {
+fn each_flat_bit(run: &mut Run, mut row: Row) {
     for count in (0..=18).chain([254, 255, 256]) {
         for bit in 0..32 {
             for word in [6, 7] {
-                let mut table = row.to_vec();
-                (table[5], table[6], table[7]) = (count, 0, 0);
-                table[word] = 1 << bit;
-                let mut subject = run.forged(table, 1);
+                (row[5], row[6], row[7]) = (count, 0, 0);
+                row[word] = 1 << bit;
+                let mut subject = run.forged(exact(&[row]), 1);
                 let k = word as u32 - 1;
                 let reference = 64;
                 run.ask(&mut subject, &Question::Type { reference, k });
@@ -114,9 +119,9 @@ fn each_flat_bit(run: &mut Run, row: [u32; ROW]) {
 fn numbers_of_rows(run: &mut Run) {
     for rows in [0, 1, 2, 5, MOST_ROWS - 1, MOST_ROWS, MOST_ROWS + 1] {
         let whole = rows_of(run, rows as u64);
-        for length in [whole.len().saturating_sub(1), whole.len(), whole.len() + 1] {
-            let mut table = whole.clone();
-            table.resize(length, 7);
+        let full = ROW * rows;
+        for length in [full.saturating_sub(1), full, full + 1] {
+            let table = table_of(&whole, length);
             let rows = rows as u32;
             let around = [rows.saturating_sub(1), rows, rows + 1, 1_023, 1_024, 1_025];
             let huge = [1 << 28, (1 << 28) + 1, 1 << 31, u32::MAX - 1, u32::MAX];

@@ -1,0 +1,82 @@
+//! Calls over bytes beside the same calls over words, at the sizes of a small description.
+use crate::inputs::{SMALL, SMALL_REFERENCES};
+use crate::port::{bytes, words};
+use crate::report::{Aim, Group, Report};
+use crate::table::ROW;
+use crate::timing::Contender;
+use std::hint::black_box;
+
+const ROWS: u32 = 3;
+/// The record of four members.
+const REFERENCE: u32 = 65;
+
+pub fn run(report: &mut Report) {
+    let mut table = [0; ROW * ROWS as usize];
+    assert_eq!(words::build(&SMALL, &mut table), u64::from(ROWS));
+    let table_bytes = bytes_of(&table);
+    let references = SMALL_REFERENCES;
+    let list = bytes_of(&references);
+
+    // The size in the 32-bit memory.
+    let over_words = || words::type_of(&table, ROWS, black_box(REFERENCE), 0);
+    let over_bytes = || bytes::type_of(&table_bytes, ROWS, black_box(REFERENCE), 0);
+    beside(report, "type, 3 rows", 1.5, over_words, over_bytes);
+
+    let over_words = || words::flatten(&table, ROWS, black_box(&references));
+    let over_bytes = || bytes::flatten(&table_bytes, ROWS, black_box(&list));
+    beside(report, "flatten of 8, 3 rows", 3.0, over_words, over_bytes);
+
+    let (mut offsets, mut offset_bytes) = ([0; 8], [0; 32]);
+    let over_words = || words::placement(&table, ROWS, black_box(&references), &mut offsets);
+    let over_bytes = || bytes::placement(&table_bytes, ROWS, black_box(&list), &mut offset_bytes);
+    beside(
+        report,
+        "placement of 8, 3 rows",
+        3.0,
+        over_words,
+        over_bytes,
+    );
+    assert_eq!(offset_bytes[..], bytes_of(&offsets), "the same offsets");
+
+    let description = bytes_of(&SMALL);
+    let (mut built, mut built_bytes) = (table, table_bytes.clone());
+    let over_words = || words::build(black_box(&SMALL), &mut built);
+    let over_bytes = || bytes::build(black_box(&description), &mut built_bytes);
+    beside(
+        report,
+        "build of 10 words, 3 rows",
+        3.0,
+        over_words,
+        over_bytes,
+    );
+    assert_eq!(built_bytes, bytes_of(&built), "the same table");
+}
+
+/// Both must answer alike, and no refusal.
+fn beside(
+    report: &mut Report,
+    what: &str,
+    most: f64,
+    mut over_words: impl FnMut() -> u64,
+    mut over_bytes: impl FnMut() -> u64,
+) {
+    let answer = over_words();
+    assert_eq!(answer >> 56, 0, "{what} is refused");
+    assert_eq!(over_bytes(), answer, "{what} over bytes");
+    let contenders = vec![
+        Contender::new("the port over bytes", || {
+            black_box(over_bytes());
+        }),
+        Contender::new("the port over words", || {
+            black_box(over_words());
+        }),
+    ];
+    let over = format!("{what}: bytes over words");
+    let what = what.to_string();
+    let timed = report.time(Group { what, contenders });
+    report.aim(over, timed.ratio(0, 1), Aim::AtMost(most));
+}
+
+fn bytes_of(words: &[u32]) -> Vec<u8> {
+    words.iter().flat_map(|word| word.to_le_bytes()).collect()
+}

@@ -1,0 +1,106 @@
+//! Questions: the port beside the original, and beside Rust that makes the same tests.
+use crate::report::{Aim, Group, Report};
+use crate::timing::Contender;
+use crate::{builds, inputs, port, tested};
+use oracle::Original;
+use oracle::component::InterfaceType;
+use std::hint::black_box;
+
+const ROWS: u32 = 1_000;
+
+pub fn run(report: &mut Report) {
+    for (many, least) in [(1, 1.2), (8, 1.2), (64, 1.2), (1_000, 1.2), (16_384, 1.4)] {
+        placement(report, many, least);
+    }
+    flatten(report);
+}
+
+/// A table of 1,000 rows, and the original with the same types.
+fn table() -> (Vec<u32>, Original) {
+    let words = inputs::mixed(ROWS);
+    let mut tables = [vec![0; builds::TABLE], vec![0; builds::TABLE]];
+    let [plain, port] = &mut tables;
+    builds::check(&words, plain, port);
+    let [_, table] = tables;
+    (table, Original::build_parsed(&Original::parse(&words)))
+}
+
+fn types_of(original: &mut Original, references: &[u32]) -> Vec<InterfaceType> {
+    let types = references.iter().map(|word| original.reference(*word));
+    types.collect::<Option<_>>().expect("good references")
+}
+
+fn placement(report: &mut Report, many: usize, least: f64) {
+    let (table, mut original) = table();
+    let references = inputs::references(many, ROWS);
+    let types = types_of(&mut original, &references);
+    let expected = original.placement(false, &types).expect("a placement");
+    let (size, align) = (expected.size, expected.align);
+    let mut tested_offsets = vec![0; many];
+    let placed = tested::placement(&table, ROWS, &references, &mut tested_offsets);
+    assert_eq!(placed, Some((size, align)));
+    assert_eq!(tested_offsets, expected.offsets);
+    let mut offsets = vec![0; many];
+    let answer = port::words::placement(&table, ROWS, &references, &mut offsets);
+    assert_eq!(answer, port::placed(size, align), "the port's placement");
+    assert_eq!(offsets, expected.offsets, "the port's offsets");
+
+    let contenders = vec![
+        Contender::new("(a) the original (32 and 64 both)", || {
+            black_box(original.placement(false, black_box(&types)));
+        }),
+        Contender::new("(t) Rust with the same tests", || {
+            let references = black_box(&references);
+            black_box(tested::placement(
+                &table,
+                ROWS,
+                references,
+                &mut tested_offsets,
+            ));
+        }),
+        Contender::new("the port", || {
+            let references = black_box(&references);
+            black_box(port::words::placement(
+                &table,
+                ROWS,
+                references,
+                &mut offsets,
+            ));
+        }),
+    ];
+    let what = format!("placement of {many}, 1,000 rows");
+    let timed = report.time(Group { what, contenders });
+    let ahead = format!("placement of {many}: the original over the port");
+    report.aim(ahead, timed.ratio(0, 2), Aim::AtLeast(least));
+}
+
+fn flatten(report: &mut Report) {
+    let (table, mut original) = table();
+    let references = inputs::flat_references();
+    let types = types_of(&mut original, &references);
+    let expected = original.flatten(false, 16, &types).expect("a list");
+    let flat = tested::flatten(&table, ROWS, 16, &references);
+    assert_eq!(flat, Some(Some((expected.packed, expected.count))));
+    let answer = port::words::flatten(&table, ROWS, &references);
+    assert_eq!(
+        answer,
+        port::list(expected.packed, expected.count),
+        "the port's list"
+    );
+
+    let contenders = vec![
+        Contender::new("(a) the original", || {
+            black_box(original.flatten(false, 16, black_box(&types)));
+        }),
+        Contender::new("(t) Rust with the same tests", || {
+            black_box(tested::flatten(&table, ROWS, 16, black_box(&references)));
+        }),
+        Contender::new("the port", || {
+            black_box(port::words::flatten(&table, ROWS, black_box(&references)));
+        }),
+    ];
+    let what = "flatten of 6 to 16 types, 1,000 rows".to_string();
+    let timed = report.time(Group { what, contenders });
+    let ahead = "flatten of 6: the original over the port";
+    report.aim(ahead, timed.ratio(0, 2), Aim::AtLeast(1.8));
+}
