@@ -23,8 +23,8 @@ use Rattle.build.specs.declared.members.Members.{Members}
 use Rattle.build.specs.declared.cases.Payloads.{Payloads}
 use Rattle.build.specs.declared.cases.Joined.{Joined}
 use Rattle.build.specs.declared.cases.Joined.the-variants as joined
-use Rattle.build.specs.declared.define.Defined.{Defined}
-use Rattle.build.specs.declared.define.Defined.the-variants as defined
+use Rattle.build.specs.declared.define.DefinedRow.{DefinedRow}
+use Rattle.build.specs.declared.define.DefinedRow.the-variants as defined
 
 -- 01: "It answers the count, or the number with the definition's index"
 abbrev pub builtMeans : Built → Answer ℕ
@@ -59,6 +59,6 @@ abbrev pub joinedMeans : Joined → Leaf PayloadsIs
 joinedMeans (joined.Payloads s) = is (payloadsMeans s)
 joinedMeans joined.BadRef = no badRef
 
-abbrev pub definedMeans : Defined → Leaf DefinedIs
+abbrev pub definedMeans : DefinedRow → Leaf DefinedIs
 definedMeans (defined.Row r next) = is (record { row = rowMeans r; next = next })
 definedMeans (defined.Refused x) = no (numberOf x)

@@ -1,4 +1,4 @@
-// Variants, enums, options and results: the payloads so far, in both memories at once.
+// Makes the rows of variants, enums, options and results from the payloads so far, in both memories at once.
 ghost use mathlib.Core.Path.{_≡_};
 ghost use Prim.Native.Nat.{_≤_, _<_};
 ghost use lib.ListN.{length, getD};
@@ -69,7 +69,7 @@ impl Payloads {
         }
     }
 
-    // The payload of a case, if it has one.
+    // Adds the payload of a case, if it has one.
     pub(crate) fn add_case(self, table: &[u32], index: DefinitionIndex, reference: u32) -> Joined
         ensures { λ r. ⌜ joinedMeans r ≡ andThen (caseLook (memberLook (now (table .entry)) (index .0)) reference) (λ c. is (addCase (payloadsMeans self) c)) ⌝ }
     {
@@ -98,7 +98,7 @@ impl Payloads {
     }
 }
 
-// A kind whose cases are the references or marks from `first` to before `end`.
+// The cases are the references or marks from `first` to before `end`.
 fn cases_row(
     words: &[u32],
     first: usize,
@@ -150,7 +150,7 @@ pub(crate) fn enum_row(n: u32) -> Rowed
     }
 }
 
-// The cases none and some.
+// An option has the cases none and some.
 pub(crate) fn option_row(
     words: &[u32],
     first: usize,

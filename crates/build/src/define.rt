@@ -1,4 +1,4 @@
-// One definition: its head, then its kind's row.
+// Reads the head of one definition, then makes its kind's row.
 ghost use mathlib.Core.Path.{_≡_};
 ghost use Prim.Native.Nat.{_≤_, _<_};
 ghost use lib.ListN.{length};
@@ -25,8 +25,8 @@ use table::DefinitionIndex;
 use table::Row;
 use types::Refusal;
 
-// The row, with the place of the next definition.
-pub(crate) enum Defined {
+// Holds the row, and the place where the next definition begins.
+pub(crate) enum DefinedRow {
     Row(Row, usize),
     Refused(Refusal),
 }
@@ -54,17 +54,17 @@ fn kind_row(words: &[u32], heading: Heading, table: &[u32], index: DefinitionInd
     }
 }
 
-pub(crate) fn define(words: &[u32], at: usize, table: &[u32], index: DefinitionIndex) -> Defined
+pub(crate) fn define(words: &[u32], at: usize, table: &[u32], index: DefinitionIndex) -> DefinedRow
     requires { ⌜ (at < length (now words)) × (length (now words) ≤ 16384) ⌝ }
     ensures { λ r. ⌜ definedMeans r ≡ definedAt (memberLook (now (table .entry)) (index .0)) (now (words .entry)) at ⌝ }
 {
     match read_head(words, at) {
-        Head::Refused(why) => Defined::Refused(why),
+        Head::Refused(why) => DefinedRow::Refused(why),
         Head::Is(heading) => {
             let next = heading.next;
             match kind_row(words, heading, table, index) {
-                Rowed::Refused(why) => Defined::Refused(why),
-                Rowed::Row(row) => Defined::Row(row, next),
+                Rowed::Refused(why) => DefinedRow::Refused(why),
+                Rowed::Row(row) => DefinedRow::Row(row, next),
             }
         }
     }

@@ -1,4 +1,4 @@
-// From a description's words to the rows of a table, a definition after another.
+// Makes the rows of a table from a description's words, one definition after another.
 mod cases;
 mod define;
 mod members;
@@ -9,14 +9,14 @@ mod simple;
 ghost use mathlib.Core.Path.{_≡_};
 ghost use Rattle.canon.specs.Description.{buildAnswer, tableAfter};
 ghost use Rattle.build.specs.Means.{builtMeans};
-use crate::define::Defined;
+use crate::define::DefinedRow;
 use crate::define::define;
 use table::DefinitionIndex;
 use table::capacity;
 use table::put_row;
 use types::Refusal;
 
-// A description's most words.
+// A description has at most so many words.
 const MAX_WORDS: usize = 16384;
 
 pub enum Built {
@@ -24,7 +24,8 @@ pub enum Built {
     Refused(Refusal, DefinitionIndex),
 }
 
-// Writes a row for each definition, up to the first that is refused.
+// Writes a row for each definition, up to the first that is refused. Refuses TooLong for the description, then for each definition NoRoom,
+// BadKind, Truncated, BadCount, BadRef, TooLarge.
 pub fn build(words: &[u32], table: &mut [u32]) -> Built
     ensures { λ r. ⌜ (builtMeans r ≡ buildAnswer (now (words .entry)) (now (table .entry))) × (now (table .exit) ≡ tableAfter (now (words .entry)) (now (table .entry))) ⌝ }
 {
@@ -39,8 +40,8 @@ pub fn build(words: &[u32], table: &mut [u32]) -> Built
             return Built::Refused(Refusal::NoRoom, DefinitionIndex(rows));
         }
         match define(words, at, table, DefinitionIndex(rows)) {
-            Defined::Refused(why) => return Built::Refused(why, DefinitionIndex(rows)),
-            Defined::Row(row, next) => {
+            DefinedRow::Refused(why) => return Built::Refused(why, DefinitionIndex(rows)),
+            DefinedRow::Row(row, next) => {
                 put_row(table, DefinitionIndex(rows), row);
                 at = next;
             }

@@ -1,4 +1,4 @@
-// Records, tuples and a map's entries: the members so far, in both memories at once.
+// Makes the rows of records, tuples and maps from the members so far, in both memories at once.
 ghost use mathlib.Core.Path.{_≡_};
 ghost use Prim.Native.Nat.{_+_, _≤_, _<_};
 ghost use lib.ListN.{length, getD};
@@ -69,7 +69,7 @@ impl Members {
     }
 }
 
-// A record or a tuple of the references from `first` to before `end`.
+// A record or a tuple has the references from `first` to before `end`.
 pub(crate) fn members_row(
     words: &[u32],
     first: usize,
@@ -93,7 +93,7 @@ pub(crate) fn members_row(
     members.row(kind)
 }
 
-// The row of a map, by the layout of its entries. A value starts where it stands in an entry.
+// Makes the row of a map by the layout of its entries. A value starts where it stands in an entry.
 fn entry_row(key: Info, value: Info) -> Rowed
     ensures { λ r. ⌜ rowedMeans r ≡ entryRow (infoMeans key) (infoMeans value) ⌝ }
 {

@@ -10,7 +10,7 @@ use table::Info;
 use table::plain_info;
 use table::row_info;
 
-// "No payload" in a variant or result.
+// The mark means "no payload" in a variant or result.
 const NO_PAYLOAD: u32 = 4294967295;
 
 pub(crate) enum Payload {

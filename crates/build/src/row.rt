@@ -1,4 +1,4 @@
-// The row of a definition, where both memories can hold it.
+// Makes the row of a definition, where both memories can hold it.
 ghost use mathlib.Core.Path.{_≡_};
 ghost use Rattle.canon.specs.Answer.{is};
 ghost use Rattle.canon.specs.Row.{rowWords};
@@ -30,7 +30,7 @@ pub(crate) const NO_INNER: Inner = Inner {
     entries: NO_LAYOUTS,
 };
 
-// The row of a list or a map.
+// A list and a map have the layouts and the flat types of a pointer pair.
 pub(crate) fn pair_row(kind: u32, inner: Inner, reach: Reach) -> Rowed
     ensures { λ r. ⌜ rowedMeans r ≡ is (pairWords kind (innerMeans inner) (reachMeans reach)) ⌝ }
 {
@@ -57,7 +57,7 @@ pub(crate) fn row_of(
     Rowed::Row(Row { kind, info, inner })
 }
 
-// Refused where a memory cannot hold it.
+// Refuses TooLarge where a memory cannot hold it.
 pub(crate) fn fit_row(
     kind: u32,
     extents: Extents,

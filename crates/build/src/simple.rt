@@ -1,4 +1,4 @@
-// Lists, fixed lists and flags: rows without a loop.
+// Makes the rows of lists, fixed lists and flags, which need no loop.
 ghost use mathlib.Core.Path.{_≡_};
 ghost use Prim.Native.Nat.{_+_, _<_};
 ghost use lib.ListN.{length, getD};

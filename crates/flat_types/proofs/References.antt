@@ -1,41 +1,50 @@
--- The lists of the references without a definition, one by one.
+-- The flat lists of the references without a definition.
 use mathlib.Core.Path.{_≡_, refl}
+use mathlib.Core.Bool.{cond}
 use mathlib.Core.List.{List, [], _∷_}
 use mathlib.Core.Option.{none}
 use Prim.Native.Nat.{ℕ, zero, suc, _*_, _/_, _^_, _≤_, _<_}
 use native.Mathlib.Omega.{arith}
 use lib.Bits.{bitAnd, and-le-r}
+use lib.Dec.{eqb}
 use lib.ListN.{length, getElem?}
+use borrow.Author.Tests.{ne-eqb}
 use Rattle.canon.specs.Answer.{lift}
 use Rattle.canon.specs.Layout.{Memory}
 use Rattle.canon.specs.Flat.{flatten}
+use Rattle.canon.specs.Pack.{pack}
 use Rattle.canon.specs.Types.{plain}
-use Rattle.flat_types.specs.Lists.{packed}
+use Rattle.flat_types.specs.Lists.{noList, packedTo, packed}
 
--- P holds of each number below n
-abbrev pub Below : (ℕ → Type 0) → ℕ → Type 0
-Below P zero = Unit {0}
-Below P (suc n) = P 0 × Below (λ k. P (suc k)) n
+-- A rule for each number below n: one test that computes both sides of it for all of them
 
-pub below : (P : ℕ → Type 0) (n : ℕ) → Below P n → (k : ℕ) → k < n → P k
-below P zero w k h = absurd (omega arith)
-below P (suc n) w zero h = w .0
-below P (suc n) w (suc k) h = below (λ i. P (suc i)) n (w .1) k (omega arith)
+abbrev pub upTo : {A : Type 0} → ℕ → (ℕ → A) → List A
+upTo zero f = []
+upTo (suc n) f = f 0 ∷ upTo n (λ k. f (suc k))
 
--- s holds the type of the scalar k at its place
-abbrev pub Scalar : ℕ → ℕ → Type 0
-Scalar s k = (k ≡ 12 → ⊥) → (m : Memory) → record { number = 1; types = bitAnd (s / 2 ^ (k * 2)) 3 } ≡ packed (lift (flatten m) (getElem? plain k))
+pub same-below : {A : Type 0} (n : ℕ) (f g : ℕ → A) → upTo n f ≡ upTo n g → (k : ℕ) → k < n → f k ≡ g k
+same-below zero f g e k h = absurd (omega arith)
+same-below (suc n) f g e zero h = cc
+same-below (suc n) f g e (suc k) h = same-below n (λ i. f (suc i)) (λ i. g (suc i)) (cc) k (omega arith)
 
-pub scalar : (s : ℕ) → Below (Scalar s) 18 → (k : ℕ) → k ≤ 17 → Scalar s k
-scalar s w k h = below (Scalar s) 18 w k (omega arith)
+-- the code's constant holds the type of each scalar at its place; String is no scalar
+
+abbrev pub codeAt : ℕ → ℕ
+codeAt k = bitAnd (3751936 / 2 ^ (k * 2)) 3
+
+pub scalar-code : (m : Memory) (k : ℕ) → k ≤ 17 → (k ≡ 12 → ⊥) → record { number = 1; types = codeAt k } ≡ packed (lift (flatten m) (getElem? plain k))
+unfolding packedTo pack flatten
+scalar-code m k h s =
+    rw (ne-eqb k 12 s)
+    at (same-below 18 (λ i. cond (eqb i 12) noList (record { number = 1; types = codeAt i })) (λ i. cond (eqb i 12) noList (packed (lift (flatten m) (getElem? plain i)))) refl k (omega arith))
 
 pub past : {A : Type 0} (l : List A) (i : ℕ) → length l ≤ i → getElem? l i ≡ none
 past [] i h = refl
 past (x ∷ l) zero h = absurd (omega arith)
 past (x ∷ l) (suc i) h = past l i (omega arith)
 
-pub code-small : (x : ℕ) → bitAnd x 3 < 2 ^ 32
-code-small x = omega (arith, and-le-r x 3)
+pub code-small : (k : ℕ) → codeAt k < 2 ^ 32
+code-small k = omega (arith, and-le-r (3751936 / 2 ^ (k * 2)) 3)
 
 -- a type's code in both memories
 pub code-fits : (x : ℕ) → bitAnd x 3 * 4294967297 < 2 ^ 64

@@ -1,4 +1,4 @@
-// The head of a definition: its kind, its count, where its references stand and where the next definition begins. Nothing that the
+// Reads the head of a definition: its kind, its count, where its references stand and where the next definition begins. Nothing that the
 // body says is tested here: neither a count nor a reference.
 ghost use mathlib.Core.Path.{_≡_};
 ghost use Prim.Native.Nat.{_*_, _/_, _%_, _^_, _≤_};
@@ -46,10 +46,10 @@ pub enum Head {
 // The shapes of the ten bodies, two bits for each kind word, 10 in front and 0 last: 1 where a count stands first, ..
 const COUNTED: u32 = 0b00_00_00_00_00_00_01_00_01_01_00;
 
-// .. the numbers behind the references, ..
+// .. how many numbers stand behind the references, ..
 const NUMBERS: u32 = 0b01_00_00_01_01_00_00_00_00_00_00;
 
-// .. and the words of the whole body but for references that are counted.
+// .. and how many words the whole body has but for references that are counted.
 const LENGTHS: u32 = 0b10_10_01_01_01_10_01_01_01_01_00;
 
 fn kind_of(word: u32) -> Kinded
@@ -88,7 +88,7 @@ pub fn kind_word(kind: Kind) -> u32
     }
 }
 
-// The two bits of a kind.
+// Takes the two bits of a kind.
 fn bits(packed: u32, kind: Kind) -> usize
     ensures { λ r. ⌜ r ≡ packed / 2 ^ (2 * kindWord (kindMeans kind)) % 4 ⌝ }
 {
@@ -138,7 +138,8 @@ fn body(words: &[u32], from: usize, kind: Kind) -> Head
     })
 }
 
-// The head of the definition that begins at a place. A place past the end is refused as a definition that runs past it.
+// Reads the definition that begins at a place. Refuses Truncated for a place past the end, then BadKind, then Truncated for a body that runs
+// past the end.
 pub fn read_head(words: &[u32], at: usize) -> Head
     ensures { λ h. ⌜ headMeans h ≡ headAt (now (words .entry)) at ⌝ }
 {

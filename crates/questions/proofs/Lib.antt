@@ -1,5 +1,6 @@
 -- Laws that several proofs of this crate cite.
 pub mod References
+pub mod Positions
 pub mod WellFormed
 pub mod Members
 pub mod Memos

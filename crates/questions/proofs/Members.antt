@@ -24,7 +24,6 @@ use Rattle.types.specs.Extents.{extentAt, memberOf, closeOf, isLarge}
 use Rattle.types.specs.declared.extent.Extent.{Extent}
 use Rattle.types.specs.declared.extent.Step.{Step}
 use Rattle.types.proofs.ExtentLaws.{reach-is, reach-large, member-reach, close-reach}
-use Rattle.table.specs.declared.info.MemberPosition.{MemberPosition}
 use Rattle.questions.specs.Steps.{startPlace, nextPlace, finished, layoutPart}
 use Rattle.questions.specs.declared.placed.Placed.{Placed}
 

@@ -1,8 +1,7 @@
 -- The memo of a placement: what it holds is what references give, and a reference that gives a layout has its place there.
 use mathlib.Core.Path.{_≡_, refl, sym, ap, _∙_}
 use mathlib.Core.Bool.{Bool, true, false, cond}
-use mathlib.Core.List.{List, [], _∷_, _++_, map, append-assoc}
-use mathlib.Core.Option.{Option, none, some}
+use mathlib.Core.List.{List, [], _∷_, _++_, append-assoc}
 use Prim.Native.Nat.{ℕ, zero, suc, _+_, _*_, _-_, _≤_, _<_}
 use native.Mathlib.Numerals.{add-one}
 use native.Mathlib.Omega.{arith}
@@ -18,11 +17,11 @@ use Rattle.canon.specs.Types.{plain}
 use Rattle.canon.specs.Table.{rowAt}
 use Rattle.canon.specs.Question.{plainInfo, readRow, read, infos, noTable, typeAnswer, sizeAlignAnswer, layoutsIn}
 use Rattle.canon.proofs.Tests.{impossible, neither}
+use Rattle.canon.proofs.Questions.{read-aligned}
 use Rattle.canon.proofs.Rounding.{Alignment, alignment-pos}
 use Rattle.canon.proofs.Tightest.{Aligned}
 use Rattle.canon.specs.Placement.{fourGiB}
-use Rattle.flat_types.proofs.References.{past}
-use Rattle.questions.specs.Steps.{layoutOf, memberOf, memoLayout, Remembers, Recalled, known}
+use Rattle.questions.specs.Steps.{infoLayout, memberLayout, memoLayout, Remembers, Recalled, known}
 use Rattle.questions.proofs.References.{part-is}
 
 -- by whether two numbers are the same
@@ -39,26 +38,26 @@ pub memo-back : (f : Layout) → f .size < fourGiB → memoLayout (f .align * fo
 memo-back f h = rw (digits-mod (f .align) h, digits-div (f .align) h)
 
 -- What a reference gives in this memory, once the table is there
-pub size-align-is : (m : Memory) (t : List ℕ) (n w : ℕ) → noTable t n ≡ false → sizeAlignAnswer m t n w ≡ atPosition 0 (memberOf m t n w)
+size-align-is : (m : Memory) (t : List ℕ) (n w : ℕ) → noTable t n ≡ false → sizeAlignAnswer m t n w ≡ atPosition 0 (memberLayout m t n w)
 unfolding sizeAlignAnswer typeAnswer unless then atPosition andThen
 size-align-is m t n w e = rw e (go (read t n w))
   where
-    go : (l : Leaf Info) → then (atPosition 0 l) (λ i. ok (layoutOf m i)) ≡ atPosition 0 (andThen l (λ i. is (layoutOf m i)))
+    go : (l : Leaf Info) → then (atPosition 0 l) (λ i. ok (infoLayout m i)) ≡ atPosition 0 (andThen l (λ i. is (infoLayout m i)))
     go (is i) = refl
     go (no x) = refl
 
-pub at-is : {A : Type 0} (l : Leaf A) (a : A) → ok a ≡ atPosition 0 l → l ≡ is a
+at-is : {A : Type 0} (l : Leaf A) (a : A) → ok a ≡ atPosition 0 l → l ≡ is a
 unfolding atPosition
 at-is (is b) a e = let p : a ≡ b = cc in rw p
 at-is (no x) a e = impossible (cc)
 
-pub at-no : {A : Type 0} (l : Leaf A) (x p : ℕ) → refused x p ≡ atPosition 0 l → l ≡ no x
+at-no : {A : Type 0} (l : Leaf A) (x p : ℕ) → refused x p ≡ atPosition 0 l → l ≡ no x
 unfolding atPosition
 at-no (is b) x p e = impossible (cc)
 at-no (no y) x p e = let q : x ≡ y = cc in rw q
 
 -- a reference that gives something is below 1088: 64, and a row for each of 1,024
-pub read-below : (t : List ℕ) (n w : ℕ) (i : Info) → noTable t n ≡ false → read t n w ≡ is i → w < 1088
+read-below : (t : List ℕ) (n w : ℕ) (i : Info) → noTable t n ≡ false → read t n w ≡ is i → w < 1088
 unfolding read noTable
 read-below t n w i e h = go (leb 64 w) (ltb (w - 64) n) refl refl h
   where
@@ -71,6 +70,17 @@ read-below t n w i e h = go (leb 64 w) (ltb (w - 64) n) refl refl h
     go true true p q h = omega (arith, ltb-true (w - 64) n q, few)
     go true false p q h = impossible (cc)
     go false c p q h = omega (arith, leb-false 64 w p)
+
+-- a layout that is answered is the reference's, which has its place in the memo, and its alignment is not 0
+module _ (m : Memory) (t : List ℕ) (n w : ℕ) (there : noTable t n ≡ false) where
+  pub gives-layout : (f : Layout) → ok f ≡ sizeAlignAnswer m t n w → (memberLayout m t n w ≡ is f) × (w < 1088) × (0 < f .align)
+  gives-layout f h =
+      let g = at-is (memberLayout m t n w) f (h ∙ size-align-is m t n w there) in
+      let r = part-is (infoLayout m) (read t n w) f (sym g) in
+      (g, read-below t n w (r .0) there (r .1), rw (r .2) at (alignment-pos (read-aligned m t n w (r .0) (r .1))))
+
+  pub gives-none : (x p : ℕ) → refused x p ≡ sizeAlignAnswer m t n w → memberLayout m t n w ≡ no x
+  gives-none x p h = at-no (memberLayout m t n w) x p (h ∙ size-align-is m t n w there)
 
 module _ (look : ℕ → Leaf Layout) (w : ℕ) (memo : List ℕ) (remembers : Remembers look memo) where
   -- it is there
@@ -112,7 +122,7 @@ remembers-none look n w h = absurd (omega (arith, zeros n w))
 
 -- References that are all there: the layouts are those of the infos that were read
 pub known-all :
-    (m : Memory) (t : List ℕ) (n : ℕ) (memo : List ℕ) → Remembers (memberOf m t n) memo →
+    (m : Memory) (t : List ℕ) (n : ℕ) (memo : List ℕ) → Remembers (memberLayout m t n) memo →
     (p : ℕ) (ws : List ℕ) (is′ : List Info) → infos (read t n) p ws ≡ ok is′ →
     ((k : ℕ) → k < length ws → 0 < getD memo (getD ws k 0) 0) →
     known memo ws ≡ layoutsIn m is′
@@ -125,14 +135,14 @@ known-all m t n memo remembers p (w ∷ ws) is′ e there =
     go :
         (l : Leaf Info) (a : Answer (List Info)) → infos (read t n) (suc p) ws ≡ a →
         then (atPosition p l) (λ i. then a (λ js. ok (i ∷ js))) ≡ ok is′ →
-        andThen l (λ i. is (layoutOf m i)) ≡ is (memoLayout (getD memo w 0)) →
+        andThen l (λ i. is (infoLayout m i)) ≡ is (memoLayout (getD memo w 0)) →
         ((js : List Info) → infos (read t n) (suc p) ws ≡ ok js → known memo ws ≡ layoutsIn m js) →
         memoLayout (getD memo w 0) ∷ known memo ws ≡ layoutsIn m is′
     go (no x) a g e h rec = impossible (cc)
     go (is i) (refused x q) g e h rec = impossible (cc)
     go (is i) (ok js) g e h rec =
         let z : i ∷ js ≡ is′ = cc in
-        let y : layoutOf m i ≡ memoLayout (getD memo w 0) = cc in
+        let y : infoLayout m i ≡ memoLayout (getD memo w 0) = cc in
         rw (← z, ← y, rec js g)
 
 -- one more of them

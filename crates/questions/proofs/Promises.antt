@@ -36,7 +36,7 @@ use Rattle.questions.specs.declared.answer.LayoutAnswer.{LayoutAnswer}
 use Rattle.questions.specs.declared.answer.LayoutAnswer.the-variants as answer
 use Rattle.questions.specs.declared.list.Gathered.{Gathered}
 use Rattle.types.proofs.Told.{told}
-use Rattle.questions.proofs.Unique.{layoutOf, layout-back}
+use Rattle.questions.proofs.Unique.{layoutAnswerOf, layout-back}
 use Rattle.questions.proofs.ask.canonical_abi.Reads as canonical-abi
 use Rattle.questions.proofs.ask.size_align.Reads as size-align
 use Rattle.questions.proofs.list.gather.Reads as gather
@@ -76,7 +76,7 @@ module _
         let six = placing-six (memoryOf m) reads in (
           λ g. six .0 (g .0 .0, refusal-passes (placing (memoryOf m) (now t) n (now ws) (length (now o))) tooLarge (g .0 .0) (sym (ap layoutAnswerMeans (g .1)) ∙ h .0)),
           λ none. let g = six .1 none in
-              (record { 0 = g .0 }, told layoutAnswerMeans layoutOf layout-back r (answer.Refused TooLarge (record { 0 = g .0 })) (h .0 ∙ rw (g .1))),
+              (record { 0 = g .0 }, told layoutAnswerMeans layoutAnswerOf layout-back r (answer.Refused TooLarge (record { 0 = g .0 })) (h .0 ∙ rw (g .1))),
         )
 
 -- Tables that a build wrote, of a description ws into a buffer t₀

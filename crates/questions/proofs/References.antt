@@ -1,9 +1,9 @@
 -- One reference: its row lies within the table, and what a question takes of it is a part of what canon's `read` gives. A loop over
 -- references: these infos have been read, and the rest comes behind them. A law for each turn, whatever is made of the infos.
 use mathlib.Core.Path.{_≡_, refl, sym, ap, _∙_}
-use mathlib.Core.Bool.{Bool, false}
+use mathlib.Core.Bool.{false}
 use mathlib.Core.List.{List, [], _∷_, _++_, append-assoc, append-nil}
-use Prim.Native.Nat.{ℕ, suc, _+_, _*_, _≤_, _<_}
+use Prim.Native.Nat.{ℕ, _+_, _*_, _≤_, _<_}
 use native.Mathlib.Numerals.{add-one}
 use native.Mathlib.Omega.{arith}
 use lib.Dec.{ltb}
@@ -42,7 +42,7 @@ unfolding andThen
 part-is f (is i) a e = (i, refl, cc)
 part-is f (no x) a e = impossible (cc)
 
-pub part-no : {A : Type 0} (f : Info → A) (l : Leaf Info) (x : ℕ) → no x ≡ part f l → l ≡ no x
+part-no : {A : Type 0} (f : Info → A) (l : Leaf Info) (x : ℕ) → no x ≡ part f l → l ≡ no x
 unfolding andThen
 part-no f (is i) x e = impossible (cc)
 part-no f (no y) x e = let p : x ≡ y = cc in rw p
@@ -87,32 +87,12 @@ module _ (look : ℕ → Leaf Info) (ws : List ℕ) where
       (then-then (infos look (k + 1) (drop (k + 1) ws)) (λ js. ok (i ∷ js)) (λ js. ok (done ++ js))
       ∙ then-ext (infos look (k + 1) (drop (k + 1) ws)) _ _ (λ js. ap ok (sym (append-assoc done (i ∷ []) js))))
 
-  pub stops : (k : ℕ) (done : List Info) (x : ℕ) → Read k done → look (getD ws k 0) ≡ no x → k < length ws → infos look 0 ws ≡ refused x k
+  pub stops :
+      {A : Type 0} (f : Info → A) (k : ℕ) (done : List Info) (x : ℕ) → Read k done →
+      no x ≡ part f (look (getD ws k 0)) → k < length ws → infos look 0 ws ≡ refused x k
   unfolding then atPosition
-  stops k done x r e h = r ∙ rw (turn k h, e)
+  stops f k done x r e h = r ∙ rw (turn k h, part-no f (look (getD ws k 0)) x e)
 
   pub ends : (k : ℕ) (done : List Info) → Read k done → length ws ≤ k → infos look 0 ws ≡ ok done
   unfolding infos then
   ends k done r h = r ∙ rw (drop-of-length-le ws {i = k} h, append-nil done)
-
--- positions that count on from a list before
-
-abbrev pub moved : {A : Type 0} → ℕ → Answer A → Answer A
-moved p (ok a) = ok a
-moved p (refused x q) = refused x (p + q)
-
-pub infos-moved : (look : ℕ → Leaf Info) (p q : ℕ) (ws : List ℕ) → infos look (p + q) ws ≡ moved p (infos look q ws)
-unfolding infos then atPosition
-infos-moved look p q [] = refl
-infos-moved look p q (w ∷ ws) = go (look w) (ap (λ (k : ℕ). infos look k ws) (omega arith) ∙ infos-moved look p (suc q) ws)
-  where
-    tail : (i : Info) (a : Answer (List Info)) → then (moved p a) (λ js. ok (i ∷ js)) ≡ moved p (then a (λ js. ok (i ∷ js)))
-    tail i (ok js) = refl
-    tail i (refused x r) = refl
-
-    go :
-        (l : Leaf Info) → infos look (suc (p + q)) ws ≡ moved p (infos look (suc q) ws) →
-        then (atPosition (p + q) l) (λ i. then (infos look (suc (p + q)) ws) (λ js. ok (i ∷ js)))
-        ≡ moved p (then (atPosition q l) (λ i. then (infos look (suc q) ws) (λ js. ok (i ∷ js))))
-    go (is i) h = rw h (tail i (infos look (suc q) ws))
-    go (no x) h = refl

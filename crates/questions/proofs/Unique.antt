@@ -15,20 +15,24 @@ use Rattle.types.specs.declared.flat.FlatCount.{FlatCount}
 use Rattle.types.specs.declared.flat.FlatCount.the-variants as flat
 use Rattle.types.specs.declared.memory.Memory.{Memory}
 use Rattle.types.proofs.Told.{told, refusalOf, refusal-back}
-use Rattle.questions.specs.Means.{typeInfoMeans, typeMeans, layoutAnswerMeans, gatheredMeans}
-use Rattle.questions.specs.Gathers.{Together}
+use Rattle.questions.specs.Means.{typeInfoMeans, typeMeans, layoutAnswerMeans, gatheredMeans, twoMeans}
+use Rattle.questions.specs.Gathers.{Together, Two}
 use Rattle.questions.specs.declared.answer.TypeInfo.{TypeInfo}
 use Rattle.questions.specs.declared.answer.TypeAnswer.{TypeAnswer}
 use Rattle.questions.specs.declared.answer.TypeAnswer.the-variants as type
 use Rattle.questions.specs.declared.answer.LayoutAnswer.{LayoutAnswer}
 use Rattle.questions.specs.declared.answer.LayoutAnswer.the-variants as layout
+use Rattle.questions.specs.declared.list.Gathering.{Gathering}
 use Rattle.questions.specs.declared.list.Gathered.{Gathered}
 use Rattle.questions.specs.declared.list.Gathered.the-variants as gathered
+use Rattle.questions.specs.declared.two.GatheredTwo.{GatheredTwo}
+use Rattle.questions.specs.declared.two.GatheredTwo.the-variants as two
 use Rattle.questions.proofs.read.too_many.Reads as too-many
 use Rattle.questions.proofs.read.no_table.Reads as no-table
 use Rattle.questions.proofs.ask.canonical_abi.Reads as canonical-abi
 use Rattle.questions.proofs.ask.size_align.Reads as size-align
 use Rattle.questions.proofs.list.gather.Reads as gather
+use Rattle.questions.proofs.two.gather_two.Reads as gather-two
 use Rattle.questions.proofs.placing.placement.Reads as placement
 
 countFrom : Option ℕ → FlatCount
@@ -60,32 +64,44 @@ info-back : (i : TypeInfo) → infoFrom (typeInfoMeans i) ≡ i
 unfolding infoFrom
 info-back i = rw (count-back (i .abi .«flat_count»))
 
-typeOf : Answer row.Info → TypeAnswer
-typeOf (ok i) = type.Info (infoFrom i)
-typeOf (refused x p) = type.Refused (refusalOf x) (record { 0 = p })
+typeAnswerOf : Answer row.Info → TypeAnswer
+typeAnswerOf (ok i) = type.Info (infoFrom i)
+typeAnswerOf (refused x p) = type.Refused (refusalOf x) (record { 0 = p })
 
-type-back : (r : TypeAnswer) → typeOf (typeMeans r) ≡ r
-unfolding typeOf
+type-back : (r : TypeAnswer) → typeAnswerOf (typeMeans r) ≡ r
+unfolding typeAnswerOf
 type-back (type.Info i) = ap type.Info (info-back i)
 type-back (type.Refused x p) = ap (λ (y : Refusal). type.Refused y p) (refusal-back x)
 
-pub layoutOf : Answer canon.Layout → LayoutAnswer
-layoutOf (ok f) = layout.Layout (record { size = f .size; align = f .align })
-layoutOf (refused x p) = layout.Refused (refusalOf x) (record { 0 = p })
+pub layoutAnswerOf : Answer canon.Layout → LayoutAnswer
+layoutAnswerOf (ok f) = layout.Layout (record { size = f .size; align = f .align })
+layoutAnswerOf (refused x p) = layout.Refused (refusalOf x) (record { 0 = p })
 
-pub layout-back : (r : LayoutAnswer) → layoutOf (layoutAnswerMeans r) ≡ r
-unfolding layoutOf
+pub layout-back : (r : LayoutAnswer) → layoutAnswerOf (layoutAnswerMeans r) ≡ r
+unfolding layoutAnswerOf
 layout-back (layout.Layout f) = refl
 layout-back (layout.Refused x p) = ap (λ (y : Refusal). layout.Refused y p) (refusal-back x)
 
+gatheringOf : Together → Gathering
+gatheringOf g = record { flat = record { count = g .flat .number; types = g .flat .types }; reach = record { 0 = g .reach } }
+
 gatheredOf : Answer Together → Gathered
-gatheredOf (ok g) = gathered.All (record { flat = record { count = g .flat .number; types = g .flat .types }; reach = record { 0 = g .reach } })
+gatheredOf (ok g) = gathered.All (gatheringOf g)
 gatheredOf (refused x p) = gathered.Refused (refusalOf x) (record { 0 = p })
 
 gathered-back : (r : Gathered) → gatheredOf (gatheredMeans r) ≡ r
-unfolding gatheredOf
+unfolding gatheredOf gatheringOf
 gathered-back (gathered.All g) = refl
 gathered-back (gathered.Refused x p) = ap (λ (y : Refusal). gathered.Refused y p) (refusal-back x)
+
+twoOf : Answer Two → GatheredTwo
+twoOf (ok l) = two.Both (gatheringOf (l .first)) (gatheringOf (l .second))
+twoOf (refused x p) = two.Refused (refusalOf x) (record { 0 = p })
+
+two-back : (r : GatheredTwo) → twoOf (twoMeans r) ≡ r
+unfolding twoOf gatheringOf
+two-back (two.Both g h) = refl
+two-back (two.Refused x p) = ap (λ (y : Refusal). two.Refused y p) (refusal-back x)
 
 pub too-many-one : (κs : Lfts 1) (ws : RefT (List ℕ)) (r q : Bool) → too-many.Post κs (ws, tt) r (ws, tt) → too-many.Post κs (ws, tt) q (ws, tt) → r ≡ q
 too-many-one κs ws r q g h = g ∙ sym h
@@ -98,20 +114,26 @@ no-table-one κs t n r q g h = g ∙ sym h
 pub canonical-abi-one :
     (κs : Lfts 1) (t : RefT (List ℕ)) (n w : ℕ) (r q : TypeAnswer) →
     canonical-abi.Post κs (t, (n, (w, tt))) r (t, (n, (w, tt))) → canonical-abi.Post κs (t, (n, (w, tt))) q (t, (n, (w, tt))) → r ≡ q
-canonical-abi-one κs t n w r q g h = told typeMeans typeOf type-back r q (g ∙ sym h)
+canonical-abi-one κs t n w r q g h = told typeMeans typeAnswerOf type-back r q (g ∙ sym h)
 
 pub size-align-one :
     (κs : Lfts 1) (m : Memory) (t : RefT (List ℕ)) (n w : ℕ) (r q : LayoutAnswer) →
     size-align.Post κs (m, (t, (n, (w, tt)))) r (m, (t, (n, (w, tt)))) → size-align.Post κs (m, (t, (n, (w, tt)))) q (m, (t, (n, (w, tt)))) → r ≡ q
-size-align-one κs m t n w r q g h = told layoutAnswerMeans layoutOf layout-back r q (g ∙ sym h)
+size-align-one κs m t n w r q g h = told layoutAnswerMeans layoutAnswerOf layout-back r q (g ∙ sym h)
 
 pub gather-one :
     (κs : Lfts 2) (m : Memory) (t : RefT (List ℕ)) (n : ℕ) (ws : RefT (List ℕ)) (r q : Gathered) →
     gather.Post κs (m, (t, (n, (ws, tt)))) r (m, (t, (n, (ws, tt)))) → gather.Post κs (m, (t, (n, (ws, tt)))) q (m, (t, (n, (ws, tt)))) → r ≡ q
 gather-one κs m t n ws r q g h = told gatheredMeans gatheredOf gathered-back r q (g ∙ sym h)
 
+pub gather-two-one :
+    (κs : Lfts 3) (t : RefT (List ℕ)) (n : ℕ) (a : Memory) (vs : RefT (List ℕ)) (b : Memory) (ws : RefT (List ℕ)) (r q : GatheredTwo) →
+    gather-two.Post κs (t, (n, (a, (vs, (b, (ws, tt)))))) r (t, (n, (a, (vs, (b, (ws, tt)))))) →
+    gather-two.Post κs (t, (n, (a, (vs, (b, (ws, tt)))))) q (t, (n, (a, (vs, (b, (ws, tt)))))) → r ≡ q
+gather-two-one κs t n a vs b ws r q g h = told twoMeans twoOf two-back r q (g ∙ sym h)
+
 pub placement-one :
     (κs : Lfts 3) (m : Memory) (t : RefT (List ℕ)) (n : ℕ) (ws o : RefT (List ℕ)) (r q : LayoutAnswer) (l k : List ℕ) →
     placement.Post κs (m, (t, (n, (ws, (o, tt))))) r (m, (t, (n, (ws, (at-last o l, tt))))) →
     placement.Post κs (m, (t, (n, (ws, (o, tt))))) q (m, (t, (n, (ws, (at-last o k, tt))))) → (r ≡ q) × (l ≡ k)
-placement-one κs m t n ws o r q l k g h = (told layoutAnswerMeans layoutOf layout-back r q (g .0 ∙ sym (h .0)), g .1 ∙ sym (h .1))
+placement-one κs m t n ws o r q l k g h = (told layoutAnswerMeans layoutAnswerOf layout-back r q (g .0 ∙ sym (h .0)), g .1 ∙ sym (h .1))

@@ -12,7 +12,7 @@ use Rattle.canon.specs.Types.{Ty}
 use Rattle.canon.specs.Layout.{Memory, mem32, mem64, within}
 use Rattle.canon.specs.Flat.{flatten, flatCount}
 use Rattle.canon.specs.Pack.{Packed}
-use Rattle.canon.specs.Reach.{Reach, joinReach, reachWord, wordReach, goodReach}
+use Rattle.canon.specs.Reach.{reachWord, wordReach, goodReach}
 use Rattle.canon.specs.Row.{Info, infoOf, typeFlat, rowInfo, rowAbi, word, countOf, countWord, goodLayout, goodCount, unusedZero, goodAbi, isDiscriminant, isGood, flatOf}
 use Rattle.canon.specs.Question.{read, noTable, typeAnswer, reachAll}
 use Rattle.canon.proofs.Tests.{impossible, both-true}
@@ -24,7 +24,7 @@ use Rattle.flat_types.specs.Lists.{packed}
 use Rattle.flat_types.proofs.Gathering.{good-packed, flat-more}
 use Rattle.flat_types.proofs.Rows.{words-given}
 use Rattle.table.specs.Rows.{rowPacked}
-use Rattle.questions.specs.Gathers.{Together, together}
+use Rattle.questions.specs.Gathers.{together}
 use Rattle.questions.specs.Steps.{alone, withMore}
 
 -- What a good row says of its parts

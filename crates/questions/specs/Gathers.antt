@@ -6,7 +6,7 @@ use Rattle.canon.specs.Layout.{Memory}
 use Rattle.canon.specs.Pack.{Packed}
 use Rattle.canon.specs.Reach.{reachWord}
 use Rattle.canon.specs.Row.{Info}
-use Rattle.canon.specs.Question.{read, infos, tooMany, noTable, reachAll}
+use Rattle.canon.specs.Question.{read, infos, tooMany, noTable, askTwo, reachAll}
 use Rattle.canon.specs.Signature.{flatAll}
 use Rattle.flat_types.specs.Lists.{packed}
 
@@ -25,3 +25,16 @@ togetherRefs m t n ws = then (infos (read t n) 0 ws) (λ is′. ok (together m i
 -- "TooLong, n", then each reference in order
 unfoldable pub gatherAnswer : Memory → List ℕ → ℕ → List ℕ → Answer Together
 gatherAnswer m t n ws = unless (tooMany ws) tooLong (unless (noTable t n) badRow (togetherRefs m t n ws))
+
+-- Two lists, each in its memory
+
+pub record Two : Type 0 where
+  pub first : Together
+  pub second : Together
+
+abbrev pub togetherTwo : Memory → List Info → Memory → List Info → Two
+togetherTwo a is′ b js = record { first = together a is′; second = together b js }
+
+-- "TooLong of both first, and positions count on from one into the other"
+abbrev pub gatherTwoAnswer : List ℕ → ℕ → Memory → List ℕ → Memory → List ℕ → Answer Two
+gatherTwoAnswer t n a vs b ws = askTwo t n vs ws (λ is′ js. ok (togetherTwo a is′ b js))

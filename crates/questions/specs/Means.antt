@@ -9,9 +9,9 @@ use Rattle.types.specs.Means.{numberOf, layoutMeans, abiMeans}
 use Rattle.flat_types.specs.Lists.{words}
 use Rattle.table.specs.Means.{infoMeans}
 use Rattle.table.specs.Rows.{rowIn}
-use Rattle.questions.specs.Gathers.{Together}
-use Rattle.questions.specs.declared.read.Defined.{Defined}
-use Rattle.questions.specs.declared.read.Defined.the-variants as defined
+use Rattle.questions.specs.Gathers.{Together, Two}
+use Rattle.questions.specs.declared.read.Named.{Named}
+use Rattle.questions.specs.declared.read.Named.the-variants as named
 use Rattle.questions.specs.declared.ask.Reading.{Reading}
 use Rattle.questions.specs.declared.ask.Reading.the-variants as reading
 use Rattle.questions.specs.declared.member.Member.{Member}
@@ -26,6 +26,8 @@ use Rattle.questions.specs.declared.list.Next.{Next}
 use Rattle.questions.specs.declared.list.Next.the-variants as next
 use Rattle.questions.specs.declared.list.Gathered.{Gathered}
 use Rattle.questions.specs.declared.list.Gathered.the-variants as gathered
+use Rattle.questions.specs.declared.two.GatheredTwo.{GatheredTwo}
+use Rattle.questions.specs.declared.two.GatheredTwo.the-variants as two
 
 abbrev pub typeInfoMeans : TypeInfo → Info
 typeInfoMeans i = record { abi = abiMeans (i .abi); flatWords = record { in32 = i .flat32; in64 = i .flat64 }; reach = record { borrow = i .borrow } }
@@ -45,16 +47,20 @@ abbrev pub gatheredMeans : Gathered → Answer Together
 gatheredMeans (gathered.All g) = ok (gatheringMeans g)
 gatheredMeans (gathered.Refused r p) = refused (numberOf r) (p .0)
 
+abbrev pub twoMeans : GatheredTwo → Answer Two
+twoMeans (two.Both g h) = ok (record { first = gatheringMeans g; second = gatheringMeans h })
+twoMeans (two.Refused r p) = refused (numberOf r) (p .0)
+
 -- What is read of one reference
 
-abbrev pub definedMeans : List ℕ → Defined → Leaf Info
-definedMeans t (defined.Row j) = is (rowInfo (rowIn t (j .0)))
-definedMeans t (defined.Refused r) = no (numberOf r)
+abbrev pub namedMeans : List ℕ → Named → Leaf Info
+namedMeans t (named.Row j) = is (rowInfo (rowIn t (j .0)))
+namedMeans t (named.Refused r) = no (numberOf r)
 
 -- and a row that is named has a good form
-abbrev pub definedGood : List ℕ → Defined → Bool
-definedGood t (defined.Row j) = isGood (rowIn t (j .0))
-definedGood t (defined.Refused r) = true
+abbrev pub namedGood : List ℕ → Named → Bool
+namedGood t (named.Row j) = isGood (rowIn t (j .0))
+namedGood t (named.Refused r) = true
 
 abbrev pub readingMeans : Reading → Leaf Info
 readingMeans (reading.Info i) = is (infoMeans i)

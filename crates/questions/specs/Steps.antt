@@ -11,12 +11,12 @@ use Rattle.canon.specs.Row.{Info, flatOf}
 use Rattle.canon.specs.Question.{read, infos, Placing, placed, layoutsIn, bufferAfter}
 use Rattle.canon.proofs.Tightest.{Aligned}
 use Rattle.canon.specs.Placement.{fourGiB}
-use Rattle.types.specs.Extents.{startExtent, memberOf as memberStep, closeOf, isLarge, layoutOf as extentLayout}
+use Rattle.types.specs.Extents.{startExtent, memberOf, closeOf, isLarge, layoutOf}
 use Rattle.types.specs.declared.extent.Extent.{Extent}
 use Rattle.flat_types.specs.Lists.{packed}
 use Rattle.flat_types.specs.Places.{appendTo}
 use Rattle.table.specs.declared.info.MemberPosition.{MemberPosition}
-use Rattle.questions.specs.Gathers.{Together}
+use Rattle.questions.specs.Gathers.{Together, Two, togetherTwo}
 use Rattle.questions.specs.Means.{layoutAnswerMeans}
 use Rattle.questions.specs.declared.answer.LayoutAnswer.{LayoutAnswer}
 use Rattle.questions.specs.declared.placed.Placed.{Placed}
@@ -35,13 +35,17 @@ alone m i = record { flat = packed (flatOf m i); reach = reachWord (i .reach) }
 abbrev pub withMore : Together → Together → Together
 withMore g h = record { flat = appendTo 16 (g .flat) (h .flat); reach = reachWord (joinReach (wordReach (g .reach)) (wordReach (h .reach))) }
 
+-- what two lists give after the tests before them
+abbrev pub twoRefs : List ℕ → ℕ → Memory → List ℕ → Memory → List ℕ → Answer Two
+twoRefs t n a vs b ws = then (infos (read t n) 0 vs) (λ is′. then (infos (read t n) (length vs) ws) (λ js. ok (togetherTwo a is′ b js)))
+
 -- Placement
 
-abbrev pub layoutOf : Memory → Info → Layout
-layoutOf m i = within m (i .abi .layouts)
+abbrev pub infoLayout : Memory → Info → Layout
+infoLayout m i = within m (i .abi .layouts)
 
-abbrev pub memberOf : Memory → List ℕ → ℕ → ℕ → Leaf Layout
-memberOf m t n w = part (layoutOf m) (read t n w)
+abbrev pub memberLayout : Memory → List ℕ → ℕ → ℕ → Leaf Layout
+memberLayout m t n w = part (infoLayout m) (read t n w)
 
 abbrev pub startPlace : Placed
 startPlace = record { extent = startExtent; offset = 0; over = record { 0 = 0 } }
@@ -50,13 +54,13 @@ startPlace = record { extent = startExtent; offset = 0; over = record { 0 = 0 } 
 unfoldable pub nextPlace : Placed → Layout → MemberPosition → Placed
 nextPlace p f k =
     record {
-      extent = memberStep (p .extent) f .extent;
-      offset = memberStep (p .extent) f .start % fourGiB;
+      extent = memberOf (p .extent) f .extent;
+      offset = memberOf (p .extent) f .start % fourGiB;
       over = cond (isLarge (p .extent)) (p .over) k;
     }
 
 abbrev closed : Extent → Answer Layout
-closed x = cond (isLarge x) (refused tooLarge 0) (ok (extentLayout x))
+closed x = cond (isLarge x) (refused tooLarge 0) (ok (layoutOf x))
 
 unfoldable pub finished : Placed → Answer Layout
 finished p = cond (isLarge (p .extent)) (refused tooLarge (p .over .0)) (closed (closeOf (p .extent)))

@@ -1,4 +1,4 @@
-// The questions on one reference.
+// Answers the questions on one reference.
 ghost use mathlib.Core.Path.{_≡_};
 ghost use mathlib.Core.Bool.{false};
 ghost use Prim.Native.Nat.{_≤_};
@@ -11,9 +11,9 @@ ghost use Rattle.questions.specs.Means.{readingMeans, typeInfoMeans, typ
 use crate::answer::LayoutAnswer;
 use crate::answer::TypeAnswer;
 use crate::answer::TypeInfo;
-use crate::read::Defined;
+use crate::read::Named;
 use crate::read::no_table;
-use crate::read::row_of;
+use crate::read::row_named;
 use table::FIRST_DEFINITION;
 use table::Found;
 use table::Info;
@@ -40,13 +40,13 @@ fn read(table: &[u32], n: u32, reference: u32) -> Reading
             Found::BadRef => Reading::Refused(Refusal::BadRef),
         };
     }
-    match row_of(table, n, reference) {
-        Defined::Row(index) => Reading::Info(row_info(table, index)),
-        Defined::Refused(why) => Reading::Refused(why),
+    match row_named(table, n, reference) {
+        Named::Row(index) => Reading::Info(row_info(table, index)),
+        Named::Refused(why) => Reading::Refused(why),
     }
 }
 
-// One reference, after the test of the table.
+// Tests the table before the reference is read.
 fn read_one(table: &[u32], n: u32, reference: u32) -> Reading
     ensures { λ r. ⌜ atPosition 0 (readingMeans r) ≡ typeAnswer (now (table .entry)) n reference ⌝ }
 {
@@ -89,6 +89,7 @@ fn type_info(info: Info) -> TypeInfo
     }
 }
 
+// Answers the type question. Refuses BadRow for the table, then BadRef for the reference, then BadRow for its row.
 pub fn canonical_abi(table: &[u32], n: u32, reference: u32) -> TypeAnswer
     ensures { λ r. ⌜ typeMeans r ≡ typeAnswer (now (table .entry)) n reference ⌝ }
 {
@@ -98,7 +99,7 @@ pub fn canonical_abi(table: &[u32], n: u32, reference: u32) -> TypeAnswer
     }
 }
 
-// Size and alignment in one memory.
+// Answers size and alignment in one memory. Refuses BadRow for the table, then BadRef for the reference, then BadRow for its row.
 pub fn size_align(memory: Memory, table: &[u32], n: u32, reference: u32) -> LayoutAnswer
     ensures { λ r. ⌜ layoutAnswerMeans r ≡ sizeAlignAnswer (memoryOf memory) (now (table .entry)) n reference ⌝ }
 {

@@ -6,6 +6,7 @@ mod member;
 mod placed;
 mod placing;
 mod read;
+mod two;
 
 pub use answer::LayoutAnswer;
 pub use answer::TypeAnswer;
@@ -18,3 +19,5 @@ pub use list::gather;
 pub use placing::placement;
 pub use read::no_table;
 pub use read::too_many;
+pub use two::GatheredTwo;
+pub use two::gather_two;

@@ -8,9 +8,9 @@ ghost use Rattle.types.specs.Means.{memoryOf};
 ghost use Rattle.questions.specs.Means.{nextMeans, gatheringMeans, gatheredMeans};
 ghost use Rattle.questions.specs.Gathers.{togetherRefs, gatherAnswer};
 ghost use Rattle.questions.specs.Steps.{part, alone, withMore};
-use crate::read::Defined;
+use crate::read::Named;
 use crate::read::no_table;
-use crate::read::row_of;
+use crate::read::row_named;
 use crate::read::too_many;
 use flat_types::FlatList;
 use table::FIRST_DEFINITION;
@@ -45,7 +45,7 @@ const NOTHING: Gathering = Gathering {
 };
 
 impl Gathering {
-    // One more member's.
+    // Adds what one more reference gives.
     fn with(self, next: Gathering) -> Gathering
         ensures { λ r. ⌜ gatheringMeans r ≡ withMore (gatheringMeans self) (gatheringMeans next) ⌝ }
     {
@@ -75,17 +75,17 @@ fn read_next(memory: Memory, table: &[u32], n: u32, reference: u32) -> Next
             Found::BadRef => Next::Refused(Refusal::BadRef),
         };
     }
-    match row_of(table, n, reference) {
-        Defined::Row(index) => Next::One(Gathering {
+    match row_named(table, n, reference) {
+        Named::Row(index) => Next::One(Gathering {
             flat: row_flat(table, index, memory),
             reach: row_reach(table, index),
         }),
-        Defined::Refused(why) => Next::Refused(why),
+        Named::Refused(why) => Next::Refused(why),
     }
 }
 
-// Each reference in order.
-fn gather_all(memory: Memory, table: &[u32], n: u32, references: &[u32]) -> Gathered
+// Reads each reference in order.
+pub(crate) fn gather_all(memory: Memory, table: &[u32], n: u32, references: &[u32]) -> Gathered
     requires { ⌜ (noTable (now table) n ≡ false) × (length (now references) ≤ 16384) ⌝ }
     ensures { λ r. ⌜ gatheredMeans r ≡ togetherRefs (memoryOf memory) (now (table .entry)) n (now (references .entry)) ⌝ }
 {
@@ -103,7 +103,7 @@ fn gather_all(memory: Memory, table: &[u32], n: u32, references: &[u32]) -> Gath
     Gathered::All(all)
 }
 
-// The one pass over a list; positions count from 0.
+// Makes the one pass over a list. Refuses TooLong, then BadRow for the table, then the first bad reference; positions count from 0.
 pub fn gather(memory: Memory, table: &[u32], n: u32, references: &[u32]) -> Gathered
     ensures { λ r. ⌜ gatheredMeans r ≡ gatherAnswer (memoryOf memory) (now (table .entry)) n (now (references .entry)) ⌝ }
 {

@@ -1,4 +1,4 @@
-// A member of a placement: its layout in one memory, read off the table, or out of a memo of what was read before.
+// Reads the layout of a placement's member in one memory, off the table or out of a memo of what was read before.
 ghost use mathlib.Core.Path.{_≡_};
 ghost use mathlib.Core.Bool.{false};
 ghost use Prim.Native.Nat.{_+_, _*_, _<_};
@@ -7,11 +7,11 @@ ghost use Rattle.canon.specs.Question.{noTable};
 ghost use Rattle.types.specs.Means.{memoryOf, layoutMeans};
 ghost use Rattle.canon.specs.Placement.{fourGiB};
 ghost use Rattle.questions.specs.Means.{memberMeans};
-ghost use Rattle.questions.specs.Steps.{layoutOf, memberOf, memoLayout, Remembers, Recalled};
+ghost use Rattle.questions.specs.Steps.{memberLayout, memoLayout, Remembers, Recalled};
 use crate::answer::LayoutAnswer;
 use crate::ask::size_align;
-use crate::read::Defined;
-use crate::read::row_of;
+use crate::read::Named;
+use crate::read::row_named;
 use table::FIRST_DEFINITION;
 use table::Found;
 use table::plain_info;
@@ -29,7 +29,7 @@ const FOUR_GIB: u64 = 4294967296;
 
 pub(crate) fn read_member(memory: Memory, table: &[u32], n: u32, reference: u32) -> Member
     requires { ⌜ noTable (now table) n ≡ false ⌝ }
-    ensures { λ r. ⌜ memberMeans r ≡ memberOf (memoryOf memory) (now (table .entry)) n reference ⌝ }
+    ensures { λ r. ⌜ memberMeans r ≡ memberLayout (memoryOf memory) (now (table .entry)) n reference ⌝ }
 {
     if reference < FIRST_DEFINITION {
         return match plain_info(reference) {
@@ -40,13 +40,13 @@ pub(crate) fn read_member(memory: Memory, table: &[u32], n: u32, reference: u32)
             Found::BadRef => Member::Refused(Refusal::BadRef),
         };
     }
-    match row_of(table, n, reference) {
-        Defined::Row(index) => Member::Layout(row_layout(table, index, memory)),
-        Defined::Refused(why) => Member::Refused(why),
+    match row_named(table, n, reference) {
+        Named::Row(index) => Member::Layout(row_layout(table, index, memory)),
+        Named::Refused(why) => Member::Refused(why),
     }
 }
 
-// A layout as a word of the memo. No alignment is 0, so that 0 stands for none.
+// Packs a layout into a word of the memo. No alignment is 0, so that 0 stands for none.
 fn memo_word(layout: Layout) -> u64
     ensures { λ r. ⌜ r ≡ layout .align * fourGiB + layout .size ⌝ }
 {
@@ -72,9 +72,9 @@ pub(crate) fn recall(
     reference: u32,
     memo: &mut [u64],
 ) -> Member
-    requires { ⌜ (noTable (now table) n ≡ false) × (length (now memo) ≡ 1088) × Remembers (memberOf (memoryOf memory) (now table) n) (now memo) ⌝ }
-    ensures { λ r. ⌜ memberMeans r ≡ memberOf (memoryOf memory) (now (table .entry)) n reference ⌝ }
-    ensures { λ _. ⌜ Recalled (memberOf (memoryOf memory) (now (table .entry)) n) reference (now (memo .entry)) (now (memo .exit)) ⌝ }
+    requires { ⌜ (noTable (now table) n ≡ false) × (length (now memo) ≡ 1088) × Remembers (memberLayout (memoryOf memory) (now table) n) (now memo) ⌝ }
+    ensures { λ r. ⌜ memberMeans r ≡ memberLayout (memoryOf memory) (now (table .entry)) n reference ⌝ }
+    ensures { λ _. ⌜ Recalled (memberLayout (memoryOf memory) (now (table .entry)) n) reference (now (memo .entry)) (now (memo .exit)) ⌝ }
 {
     let at = reference as usize;
     if at < memo.len() {

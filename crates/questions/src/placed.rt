@@ -1,4 +1,4 @@
-// The members of a placement so far.
+// Places one member after another.
 ghost use mathlib.Core.Path.{_≡_};
 ghost use Rattle.types.specs.Means.{layoutMeans};
 ghost use Rattle.questions.specs.Means.{layoutAnswerMeans};
@@ -11,7 +11,8 @@ use types::Refusal;
 
 const FOUR_GIB: u64 = 4294967296;
 
-// Their extent, where the last of them starts, and the last that begins before the extent is too large: where it is, the one that passed.
+// Holds the extent of the members so far, where the last of them starts, and the last that begins before the extent is too large: where it
+// is, the one that passed.
 pub(crate) struct Placed {
     extent: Extent,
     pub(crate) offset: u32,

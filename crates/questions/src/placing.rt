@@ -1,8 +1,8 @@
-// Placement in one memory. Up to 1,024 offsets are staged and copied when all is accepted. More are placed twice: the first pass judges and
+// Answers a placement in one memory. Up to 1,024 offsets are staged and copied when all is accepted. More are placed twice: the first pass judges and
 // remembers each layout, the second writes.
 ghost use mathlib.Core.Path.{_≡_};
 ghost use mathlib.Core.Bool.{false};
-ghost use mathlib.Core.List.{_++_, map};
+ghost use mathlib.Core.List.{_++_};
 ghost use Prim.Native.Nat.{_≤_};
 ghost use lib.ListN.{length, take, drop};
 ghost use Rattle.canon.specs.Answer.{ok};
@@ -10,7 +10,7 @@ ghost use Rattle.canon.specs.Layout.{starts};
 ghost use Rattle.canon.specs.Question.{noTable, Placing, placementAnswer, offsetsAfter};
 ghost use Rattle.types.specs.Means.{memoryOf};
 ghost use Rattle.questions.specs.Means.{layoutAnswerMeans};
-ghost use Rattle.questions.specs.Steps.{placedRefs, layoutPart, memberOf, Remembers, known, Ready, Places};
+ghost use Rattle.questions.specs.Steps.{placedRefs, layoutPart, memberLayout, Remembers, known, Ready, Places};
 use crate::answer::LayoutAnswer;
 use crate::member::Member;
 use crate::member::memo_layout;
@@ -23,7 +23,7 @@ use table::MemberPosition;
 use types::Memory;
 use types::Refusal;
 
-// The answer, and each reference's offset into the stage.
+// Answers, and puts each reference's offset into the stage.
 fn fill(
     memory: Memory,
     table: &[u32],
@@ -81,7 +81,7 @@ fn place_staged(
     }
 }
 
-// The answer, and each reference's layout in the memo.
+// Answers, and leaves each reference's layout in the memo.
 fn judge(
     memory: Memory,
     table: &[u32],
@@ -89,7 +89,7 @@ fn judge(
     references: &[u32],
     memo: &mut [u64],
 ) -> LayoutAnswer
-    requires { ⌜ (noTable (now table) n ≡ false) × (length (now references) ≤ 16384) × (length (now memo) ≡ 1088) × Remembers (memberOf (memoryOf memory) (now table) n) (now memo) ⌝ }
+    requires { ⌜ (noTable (now table) n ≡ false) × (length (now references) ≤ 16384) × (length (now memo) ≡ 1088) × Remembers (memberLayout (memoryOf memory) (now table) n) (now memo) ⌝ }
     ensures { λ r. ⌜ layoutAnswerMeans r ≡ layoutPart (placedRefs (memoryOf memory) (now (table .entry)) n (now (references .entry))) ⌝ }
     ensures { λ _. ⌜ ((p : Placing) → placedRefs (memoryOf memory) (now (table .entry)) n (now (references .entry)) ≡ ok p → Ready (now (memo .exit)) (now (references .entry)) (p .offsets)) ⌝ }
 {
@@ -107,7 +107,7 @@ fn judge(
     placed.finish()
 }
 
-// The offsets of references whose layouts the memo has.
+// Writes the offsets of references whose layouts the memo has.
 fn write(references: &[u32], memo: &[u64], out: &mut [u32])
     requires { ⌜ (length (now references) ≤ 16384) × (length (now memo) ≡ 1088) × (length (now references) ≤ length (now out)) × Ready (now memo) (now references) (starts 0 (known (now memo) (now references))) ⌝ }
     ensures { λ _. ⌜ now (out .exit) ≡ starts 0 (known (now (memo .entry)) (now (references .entry))) ++ drop (length (now (references .entry))) (now (out .entry)) ⌝ }
@@ -190,6 +190,7 @@ fn place_all(
     place_long(memory, table, n, references, out)
 }
 
+// Refuses TooLong, then BadRow for the table, then NoRoom for the offsets, then the first bad reference, then TooLarge.
 pub fn placement(
     memory: Memory,
     table: &[u32],

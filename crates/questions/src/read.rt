@@ -4,7 +4,7 @@ ghost use mathlib.Core.Path.{_≡_};
 ghost use mathlib.Core.Bool.{true, false};
 ghost use Prim.Native.Nat.{_≤_};
 ghost use Rattle.canon.specs.Question.{read, tooMany, noTable};
-ghost use Rattle.questions.specs.Means.{definedMeans, definedGood};
+ghost use Rattle.questions.specs.Means.{namedMeans, namedGood};
 use table::DefinitionIndex;
 use table::FIRST_DEFINITION;
 use table::is_good_row;
@@ -16,7 +16,7 @@ const MOST_ROWS: u32 = 1024;
 
 const ROW_WORDS: usize = 16;
 
-pub(crate) enum Defined {
+pub(crate) enum Named {
     Row(DefinitionIndex),
     Refused(Refusal),
 }
@@ -38,18 +38,18 @@ pub fn no_table(table: &[u32], n: u32) -> bool
 }
 
 // The row that a reference names, if it is there and of good form.
-pub(crate) fn row_of(table: &[u32], n: u32, reference: u32) -> Defined
+pub(crate) fn row_named(table: &[u32], n: u32, reference: u32) -> Named
     requires { ⌜ (noTable (now table) n ≡ false) × (64 ≤ reference) ⌝ }
-    ensures { λ r. ⌜ (definedMeans (now (table .entry)) r ≡ read (now (table .entry)) n reference) × (definedGood (now (table .entry)) r ≡ true) ⌝ }
+    ensures { λ r. ⌜ (namedMeans (now (table .entry)) r ≡ read (now (table .entry)) n reference) × (namedGood (now (table .entry)) r ≡ true) ⌝ }
 {
     let index = DefinitionIndex(reference - FIRST_DEFINITION);
     if index.0 < n {
         if is_good_row(table, index) {
-            Defined::Row(index)
+            Named::Row(index)
         } else {
-            Defined::Refused(Refusal::BadRow)
+            Named::Refused(Refusal::BadRow)
         }
     } else {
-        Defined::Refused(Refusal::BadRef)
+        Named::Refused(Refusal::BadRef)
     }
 }

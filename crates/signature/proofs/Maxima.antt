@@ -12,7 +12,7 @@ use borrow.Author.Tests.{le-leb, lt-leb, leb-true, lt-ltb, le-ltb}
 use Rattle.canon.specs.Layout.{Memory, mem32, mem64}
 use Rattle.canon.specs.Flat.{ptrType}
 use Rattle.canon.specs.Pack.{Packed, code, pack}
-use Rattle.canon.specs.Signature.{listed, inMemory, atMost, Side, liftingMax, orPointer, behindPointer, listOrNone, returnOf}
+use Rattle.canon.specs.Signature.{listed, inMemory, atMost, Side, liftingMax, paramsMax, orPointer, startOf, behindPointer, listOrNone, returnOf}
 use Rattle.canon.specs.Types.{Core}
 use Rattle.flat_types.specs.Lists.{unpacked, packedTo, packed}
 use Rattle.flat_types.specs.Places.{appendTo}
@@ -116,22 +116,27 @@ whole-packed o w e = rw e (go o)
         ]
 
 -- under a maximum of up to 16 types they stand for the list itself
-pub at-most-packed : (max : ℕ) (o : Option (List Core)) (w : Packed) → max ≤ 16 → w ≡ packed o → atMost max (unpacked w) ≡ atMost max o
+pub at-most-packed : (max : ℕ) (o : Option (List Core)) → max ≤ 16 → atMost max (unpacked (packed o)) ≡ atMost max o
 unfolding packedTo unpacked atMost
-at-most-packed max o w small e = rw e (go o)
-  where
-    go : (o : Option (List Core)) → atMost max (unpacked (packed o)) ≡ atMost max o
-    go none = refl
-    go (some l) =
-        elim (decLe (length l) 16) [
-          | yes h ↦ rw (list-packed l h)
-          | no h ↦ rw (packed-none 16 l (omega arith), lt-leb (length l) max (omega arith))
-        ]
+at-most-packed max none small = refl
+at-most-packed max (some l) small =
+    elim (decLe (length l) 16) [
+      | yes h ↦ rw (list-packed l h)
+      | no h ↦ rw (packed-none 16 l (omega arith), lt-leb (length l) max (omega arith))
+    ]
 
--- a return over what the words stand for is one over the lists
+-- a signature over what the words stand for is one over the lists
+
+pub start-packed :
+    (lower lift : Side) (o q : Option (List Core)) →
+    startOf lower (unpacked (packed o)) lift (unpacked (packed q)) ≡ startOf lower o lift q
+unfolding startOf
+start-packed lower lift o q =
+    rw (at-most-packed (paramsMax (lower .async)) o (maximum-small (lower .async) 4 16 (omega arith) (omega arith)), at-most-packed 16 q (omega arith))
+
 pub return-packed :
-    (lift lower : Side) (o q : Option (List Core)) (v w : Packed) (empty : Bool) → v ≡ packed o → w ≡ packed q →
-    returnOf lift (unpacked v) lower (unpacked w) empty ≡ returnOf lift o lower q empty
+    (lift lower : Side) (empty : Bool) (o q : Option (List Core)) →
+    returnOf lift (unpacked (packed o)) lower (unpacked (packed q)) empty ≡ returnOf lift o lower q empty
 unfolding returnOf
-return-packed lift lower o q v w empty e f =
-    rw (at-most-packed (liftingMax (lift .async)) o v (maximum-small (lift .async) 16 1 (omega arith) (omega arith)) e, at-most-packed 1 q w (omega arith) f)
+return-packed lift lower empty o q =
+    rw (at-most-packed (liftingMax (lift .async)) o (maximum-small (lift .async) 16 1 (omega arith) (omega arith)), at-most-packed 1 q (omega arith))

@@ -28,16 +28,16 @@ use Rattle.signature.proofs.flatten.contains_borrow_resource.Reads as c
 use Rattle.signature.proofs.signatures.async_start_signature.Reads as async-start-signature
 use Rattle.signature.proofs.signatures.async_return_signature.Reads as async-return-signature
 
-listOf : Packed → FlatList
-listOf p = record { count = p .number; types = p .types }
+flatListOf : Packed → FlatList
+flatListOf p = record { count = p .number; types = p .types }
 
 flattenedOf : Answer (Option Packed) → Flattened
 flattenedOf (ok none) = flattened.Memory
-flattenedOf (ok (some p)) = flattened.List (listOf p)
+flattenedOf (ok (some p)) = flattened.List (flatListOf p)
 flattenedOf (refused x p) = flattened.Refused (refusalOf x) (record { 0 = p })
 
 flattened-back : (r : Flattened) → flattenedOf (flattenedMeans r) ≡ r
-unfolding flattenedOf listOf
+unfolding flattenedOf flatListOf
 flattened-back (flattened.List f) = refl
 flattened-back flattened.Memory = refl
 flattened-back (flattened.Refused x p) = ap (λ (y : Refusal). flattened.Refused y p) (refusal-back x)
@@ -52,11 +52,11 @@ borrow-back (borrowed.Reached b) = refl
 borrow-back (borrowed.Refused x p) = ap (λ (y : Refusal). borrowed.Refused y p) (refusal-back x)
 
 answerOf : Answer PackedSignature → SignatureAnswer
-answerOf (ok s) = answer.Signature (record { params = listOf (s .params); results = listOf (s .results) })
+answerOf (ok s) = answer.Signature (record { params = flatListOf (s .params); results = flatListOf (s .results) })
 answerOf (refused x p) = answer.Refused (refusalOf x) (record { 0 = p })
 
 answer-back : (r : SignatureAnswer) → answerOf (signatureAnswerMeans r) ≡ r
-unfolding answerOf listOf
+unfolding answerOf flatListOf
 answer-back (answer.Signature s) = refl
 answer-back (answer.Refused x p) = ap (λ (y : Refusal). answer.Refused y p) (refusal-back x)
 

@@ -6,14 +6,12 @@ use Rattle.canon.specs.Pack.{Packed}
 use Rattle.canon.specs.Signature as canon
 use Rattle.types.specs.Means.{numberOf, memoryOf}
 use Rattle.flat_types.specs.Lists.{words}
-use Rattle.signature.specs.Packs.{PackedSignature, Lists}
+use Rattle.signature.specs.Packs.{PackedSignature}
 use Rattle.signature.specs.declared.flatten.Side.{Side}
 use Rattle.signature.specs.declared.flatten.Flattened.{Flattened}
 use Rattle.signature.specs.declared.flatten.Flattened.the-variants as flattened
 use Rattle.signature.specs.declared.flatten.BorrowAnswer.{BorrowAnswer}
 use Rattle.signature.specs.declared.flatten.BorrowAnswer.the-variants as borrowed
-use Rattle.signature.specs.declared.lists.TwoLists.{TwoLists}
-use Rattle.signature.specs.declared.lists.TwoLists.the-variants as two
 use Rattle.signature.specs.declared.signatures.Signature.{Signature}
 use Rattle.signature.specs.declared.signatures.SignatureAnswer.{SignatureAnswer}
 use Rattle.signature.specs.declared.signatures.SignatureAnswer.the-variants as answer
@@ -29,10 +27,6 @@ flattenedMeans (flattened.Refused r p) = refused (numberOf r) (p .0)
 abbrev pub borrowMeans : BorrowAnswer → Answer Bool
 borrowMeans (borrowed.Reached b) = ok b
 borrowMeans (borrowed.Refused r p) = refused (numberOf r) (p .0)
-
-abbrev pub twoMeans : TwoLists → Answer Lists
-twoMeans (two.Lists f g) = ok (record { first = words f; second = words g })
-twoMeans (two.Refused r p) = refused (numberOf r) (p .0)
 
 abbrev pub signatureMeans : Signature → PackedSignature
 signatureMeans s = record { params = words (s .params); results = words (s .results) }

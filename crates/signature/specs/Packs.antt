@@ -6,11 +6,9 @@ use mathlib.Core.Option.{Option, none, some}
 use Prim.Native.Nat.{ℕ}
 use lib.ListN.{length}
 use Rattle.canon.specs.Answer.{Answer, ok, then, tooLong, badCount, badRow}
-use Rattle.canon.specs.Layout.{Memory}
 use Rattle.canon.specs.Pack.{Packed, pack}
-use Rattle.canon.specs.Row.{Info}
-use Rattle.canon.specs.Question.{tooMany, noTable, askTwo}
-use Rattle.canon.specs.Signature.{Flattened, listed, inMemory, flatAll, Signature}
+use Rattle.canon.specs.Question.{tooMany, noTable}
+use Rattle.canon.specs.Signature.{Flattened, listed, inMemory, Signature}
 use Rattle.canon.specs.Types.{Core}
 use Rattle.flat_types.specs.Lists.{packed, words, flat}
 use Rattle.flat_types.specs.declared.list.FlatList.{FlatList}
@@ -37,17 +35,6 @@ abbrev pub packedAnswer : Answer Signature → Answer PackedSignature
 packedAnswer a = then a (λ s. ok (packedSignature s))
 
 -- The inner functions' words
-
--- two lists in their memories, none where one has more than 16 types
-pub record Lists : Type 0 where
-  pub first : Packed
-  pub second : Packed
-
-abbrev pub lists : Memory → List Info → Memory → List Info → Lists
-lists a is′ b js = record { first = packed (flatAll a is′); second = packed (flatAll b js) }
-
-abbrev pub bothLists : List ℕ → ℕ → Memory → List ℕ → Memory → List ℕ → Answer Lists
-bothLists t n a vs b ws = askTwo t n vs ws (λ is′ js. ok (lists a is′ b js))
 
 -- a list's words are those that are written for what it stands for
 abbrev pub Whole : FlatList → Type 0

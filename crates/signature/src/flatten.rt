@@ -1,4 +1,4 @@
-// The questions on one list.
+// Answers the questions on one list.
 ghost use mathlib.Core.Path.{_≡_};
 ghost use Prim.Native.Nat.{_≤_};
 ghost use Rattle.canon.specs.Answer.{ok};
@@ -18,7 +18,7 @@ use types::MAX_FLAT_TYPES;
 use types::Memory;
 use types::Refusal;
 
-// The source's maxima.
+// The source has these maxima.
 pub const MAX_FLAT_PARAMS: u32 = 16;
 
 pub const MAX_FLAT_ASYNC_PARAMS: u32 = 4;
@@ -42,7 +42,7 @@ pub enum BorrowAnswer {
     Refused(Refusal, MemberPosition),
 }
 
-// A list of at most so many types; a longer one lies in memory.
+// Passes a list of at most so many types; a longer one lies in memory.
 fn at_most(max: u32, list: FlatList) -> Flattened
     requires { ⌜ (max ≤ 16) × Whole list ⌝ }
     ensures { λ r. ⌜ flattenedMeans r ≡ ok (packedFlat (atMost max (flat list))) ⌝ }
@@ -67,6 +67,7 @@ fn bad_maximum(table: &[u32], n: u32, references: &[u32]) -> Refusal
     Refusal::BadCount
 }
 
+// Refuses TooLong, then BadRow for the table, then BadCount for the maximum, then the first bad reference.
 pub fn flatten_types(
     memory: Memory,
     max: u32,
@@ -101,6 +102,7 @@ pub(crate) fn lifting_max(async_: bool) -> u32
     }
 }
 
+// Refuses TooLong, then BadRow for the table, then the first bad reference; its maximum is good.
 pub fn flatten_lowering_types(side: Side, table: &[u32], n: u32, references: &[u32]) -> Flattened
     ensures { λ r. ⌜ flattenedMeans r ≡ packedFlattened (loweringAnswer (sideMeans side) (now (table .entry)) n (now (references .entry))) ⌝ }
 {
@@ -108,6 +110,7 @@ pub fn flatten_lowering_types(side: Side, table: &[u32], n: u32, references: &[u
     flatten_types(memory, lowering_max(side.async_), table, n, references)
 }
 
+// Refuses TooLong, then BadRow for the table, then the first bad reference; its maximum is good.
 pub fn flatten_lifting_types(side: Side, table: &[u32], n: u32, references: &[u32]) -> Flattened
     ensures { λ r. ⌜ flattenedMeans r ≡ packedFlattened (liftingAnswer (sideMeans side) (now (table .entry)) n (now (references .entry))) ⌝ }
 {
@@ -115,6 +118,7 @@ pub fn flatten_lifting_types(side: Side, table: &[u32], n: u32, references: &[u3
     flatten_types(memory, lifting_max(side.async_), table, n, references)
 }
 
+// Refuses TooLong, then BadRow for the table, then the first bad reference.
 pub fn contains_borrow_resource(table: &[u32], n: u32, references: &[u32]) -> BorrowAnswer
     ensures { λ r. ⌜ borrowMeans r ≡ borrowAnswer (now (table .entry)) n (now (references .entry)) ⌝ }
 {

@@ -1,4 +1,4 @@
-// Core signatures of lifted and lowered functions, over a table and lent lists of references.
+// Answers the core signatures of lifted and lowered functions, over a table and lent lists of references.
 mod flatten;
 mod lists;
 mod signatures;

@@ -1,4 +1,4 @@
-// The signatures of a call's start and of its return.
+// Answers the signatures of a call's start and of its return.
 ghost use mathlib.Core.Path.{_≡_};
 ghost use Rattle.canon.specs.Signature.{atMost, paramsMax, behindPointer, returnOf, asyncStartAnswer, asyncReturnAnswer};
 ghost use Rattle.flat_types.specs.Lists.{flat};
@@ -9,11 +9,11 @@ use crate::flatten::MAX_FLAT_PARAMS;
 use crate::flatten::MAX_FLAT_RESULTS;
 use crate::flatten::Side;
 use crate::flatten::lifting_max;
-use crate::lists::TwoLists;
-use crate::lists::gather_two;
 use crate::lists::or_nothing;
 use crate::lists::or_pointer;
 use flat_types::FlatList;
+use questions::GatheredTwo;
+use questions::gather_two;
 use table::MemberPosition;
 use types::Refusal;
 
@@ -37,6 +37,7 @@ fn params_max(async_: bool) -> u32
     }
 }
 
+// Refuses TooLong for either list, then BadRow for the table, then the first bad reference of lower's list, then of lift's.
 pub fn async_start_signature(
     table: &[u32],
     n: u32,
@@ -50,11 +51,11 @@ pub fn async_start_signature(
     let lower_memory = lower.memory;
     let lift_memory = lift.memory;
     match gather_two(table, n, lower_memory, lowered, lift_memory, lifted) {
-        TwoLists::Lists(params, results) => SignatureAnswer::Signature(Signature {
-            params: or_pointer(lower_memory, params_max(lower.async_), params),
-            results: or_pointer(lift_memory, MAX_FLAT_PARAMS, results),
+        GatheredTwo::Both(params, results) => SignatureAnswer::Signature(Signature {
+            params: or_pointer(lower_memory, params_max(lower.async_), params.flat),
+            results: or_pointer(lift_memory, MAX_FLAT_PARAMS, results.flat),
         }),
-        TwoLists::Refused(why, position) => SignatureAnswer::Refused(why, position),
+        GatheredTwo::Refused(why, position) => SignatureAnswer::Refused(why, position),
     }
 }
 
@@ -91,6 +92,7 @@ fn return_of(lift: Side, lifted: FlatList, lower: Side, lowered: FlatList, empty
     }
 }
 
+// Refuses TooLong for either list, then BadRow for the table, then the first bad reference of lift's list, then of lower's.
 pub fn async_return_signature(
     table: &[u32],
     n: u32,
@@ -104,10 +106,10 @@ pub fn async_return_signature(
     let lift_memory = lift.memory;
     let lower_memory = lower.memory;
     match gather_two(table, n, lift_memory, lifted, lower_memory, lowered) {
-        TwoLists::Lists(params, results) => {
+        GatheredTwo::Both(params, results) => {
             let empty = lowered.len() == 0;
-            SignatureAnswer::Signature(return_of(lift, params, lower, results, empty))
+            SignatureAnswer::Signature(return_of(lift, params.flat, lower, results.flat, empty))
         }
-        TwoLists::Refused(why, position) => SignatureAnswer::Refused(why, position),
+        GatheredTwo::Refused(why, position) => SignatureAnswer::Refused(why, position),
     }
 }

@@ -1,6 +1,6 @@
--- The references without a definition, one by one.
+-- The references without a definition.
 use mathlib.Core.Path.{_≡_, refl, ap, _∙_}
-use mathlib.Core.Bool.{Bool, true, false, _||_}
+use mathlib.Core.Bool.{Bool, false, cond, _||_}
 use mathlib.Core.List.{List, [], _∷_}
 use mathlib.Core.Option.{Option, none, some}
 use Prim.Native.Nat.{ℕ, zero, suc, _≤_, _<_}
@@ -16,10 +16,9 @@ use Rattle.canon.specs.Pack.{Packed}
 use Rattle.canon.specs.Row.{countWord, countOf, infoOf, rowFlat, typeFlat}
 use Rattle.canon.proofs.Rows.{countOf-countWord, flatCount-small}
 use Rattle.canon.specs.Question.{plainInfo}
-use Rattle.canon.proofs.Tests.{impossible}
 use Rattle.canon.proofs.Reaches.{word-back}
 use Rattle.flat_types.specs.Lists.{halves, packed, wordsIn}
-use Rattle.flat_types.proofs.References.{below}
+use Rattle.flat_types.proofs.References.{same-below}
 use Rattle.flat_types.proofs.Rows.{plain-words}
 use Rattle.table.specs.Means.{Plain, reachMeans, reachOf, infoMeans}
 use Rattle.table.specs.declared.info.Info.{Info}
@@ -41,32 +40,17 @@ as-wide k n e = (wide, e .1)
 unfoldable pub armed : ℕ → Bool
 armed k = eqb k 0 || (eqb k 1 || (eqb k 2 || (eqb k 3 || (eqb k 4 || (eqb k 7 || (eqb k 8 || (eqb k 10 || eqb k 12)))))))
 
-abbrev Rest : ℕ → Type 0
-Rest k = armed k ≡ false → Sized 4 k
-
-own : {A : Type 0} → true ≡ false → A
-own e = impossible (cc)
-
-four : {A : Type 0} → A → false ≡ false → A
-four a e = a
-
-pub rest-is-four : (k : ℕ) → k ≤ 17 → Rest k
+pub rest-is-four : (k : ℕ) → k ≤ 17 → armed k ≡ false → Sized 4 k
 unfolding armed layout flatCount
-rest-is-four k h =
-    below Rest 18
-    (own, (own, (own, (own, (own, (four (λ m. refl, refl), (four (λ m. refl, refl), (own, (own, (four (λ m. refl, refl), (own, (four (λ m. refl, refl), (own, (four (λ m. refl, refl), (four (λ m. refl, refl), (four (λ m. refl, refl), (four (λ m. refl, refl), (four (λ m. refl, refl), tt))))))))))))))))))
-    k (omega arith)
+rest-is-four k h e = (
+  λ m. rw e at (same-below 18 (λ i. cond (armed i) none (lift (layout m) (getElem? plain i))) (λ i. cond (armed i) none (some (square 4))) refl k (omega arith)),
+  rw e at (same-below 18 (λ i. cond (armed i) none (lift flatCount (getElem? plain i))) (λ i. cond (armed i) none (some (some 1))) refl k (omega arith)),
+)
 
 -- only Borrow is a borrow
-abbrev Reached : ℕ → Type 0
-Reached k = lift reach (getElem? plain k) ≡ some (record { borrow = eqb k 14 })
-
-reached : (k : ℕ) → k ≤ 17 → Reached k
+reached : (k : ℕ) → k ≤ 17 → lift reach (getElem? plain k) ≡ some (record { borrow = eqb k 14 })
 unfolding reach
-reached k h =
-    below Reached 18
-    (refl, (refl, (refl, (refl, (refl, (refl, (refl, (refl, (refl, (refl, (refl, (refl, (refl, (refl, (refl, (refl, (refl, (refl, tt))))))))))))))))))
-    k (omega arith)
+reached k h = same-below 18 (λ i. lift reach (getElem? plain i)) (λ i. some (record { borrow = eqb i 14 })) refl k (omega arith)
 
 -- there is a type for each
 pub there : (k : ℕ) → k ≤ 17 → (t : Ty) × (getElem? plain k ≡ some t)

@@ -48,7 +48,7 @@ fn row_layouts(table: &[u32], index: DefinitionIndex) -> Layouts
     }
 }
 
-fn flat_types(table: &[u32], index: DefinitionIndex) -> FlatTypes
+fn row_types(table: &[u32], index: DefinitionIndex) -> FlatTypes
     ensures { λ r. ⌜ RowTypes r (rowIn (now (table .entry)) (index .0)) ⌝ }
 {
     FlatTypes::of(
@@ -83,7 +83,7 @@ pub fn is_good_row(table: &[u32], index: DefinitionIndex) -> bool
         return false;
     }
     if row_layouts(table, index).is_good() {
-        if flat_types(table, index).is_good() {
+        if row_types(table, index).is_good() {
             return good_rest(table, index);
         }
     }
@@ -139,7 +139,7 @@ pub fn row_info(table: &[u32], index: DefinitionIndex) -> Info
 {
     Info {
         layouts: row_layouts(table, index),
-        flat: flat_types(table, index),
+        flat: row_types(table, index),
         reach: row_reach(table, index),
     }
 }

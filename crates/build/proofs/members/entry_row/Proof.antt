@@ -1,7 +1,7 @@
 -- Two steps, closed: too large, or a pair whose entry they are.
 use mathlib.Core.Path.{_≡_, sym, ap, _∙_}
 use native.Mathlib.Omega.{arith}
-use Rattle.canon.specs.Answer.{is, andThen}
+use Rattle.canon.specs.Answer.{andThen}
 use Rattle.canon.specs.Layout.{mem32, mem64, both}
 use Rattle.canon.proofs.Reaches.{word-back}
 use Rattle.types.specs.Extents.{closeOf, fittedOf}

@@ -22,8 +22,8 @@ returns-2 : tie.Need-returns-2
 unfolding read
 returns-2 c = simp (lt-leb _ _ (c .before .before .before .if1 .taken), ← c .before .before .plain-info .ensures .0, c .enum-told .given .1)
 
-row-of-requires : tie.Need-row-of-requires
-row-of-requires c κs = search needs
+row-named-requires : tie.Need-row-named-requires
+row-named-requires c κs = search needs
 
 enum-known-index : tie.Need-enum-known-index
 enum-known-index c = search needs
@@ -35,10 +35,10 @@ enum-known-why : tie.Need-enum-known-why
 enum-known-why c = search needs
 
 returns-3 : tie.Need-returns-3
-returns-3 c = rw (← c .before .before .before .before .row-of .ensures .0, c .before .before .index .given .1, c .row-info .ensures .0)
+returns-3 c = rw (← c .before .before .before .before .row-named .ensures .0, c .before .before .index .given .1, c .row-info .ensures .0)
 
 returns-4 : tie.Need-returns-4
-returns-4 c = rw (← c .before .before .before .row-of .ensures .0, c .before .why .given .1)
+returns-4 c = rw (← c .before .before .before .row-named .ensures .0, c .before .why .given .1)
 
 pub read-spec : {M : Type 1} → statement M
 read-spec =
@@ -49,7 +49,7 @@ read-spec =
     enum-told
     returns
     returns-2
-    row-of-requires
+    row-named-requires
     enum-known-index
     row-info-requires
     enum-known-why

@@ -15,7 +15,7 @@ use Rattle.flat_types.specs.Lists.{packedTo}
 use Rattle.questions.specs.Gathers.{together}
 use Rattle.questions.specs.Means.{nextMeans, gatheringMeans}
 use Rattle.questions.specs.Steps.{alone, withMore}
-use Rattle.questions.proofs.References.{part-is, part-no, Read, begins, goes-on, stops, ends}
+use Rattle.questions.proofs.References.{part-is, Read, begins, goes-on, stops, ends}
 use Rattle.questions.proofs.WellFormed.{with-more}
 use borrow.Author.Needs.{needs}
 use Rattle.questions.proofs.list.gather_all.Statement.{statement}
@@ -61,8 +61,8 @@ returns c = let a = c .before .before .before .before .before .before .before .b
     let l = c .before .before .before .before .before .before .loop in
     let w = c .before .why .given in
     let look = read (now (a .table)) (a .n) in
-    rw (stops look (now (a .references)) (l .k) (l .inv .1 .0) (numberOf (w .0 .0)) (l .inv .1 .1)
-    (part-no (alone (memoryOf (a .memory))) (look (getD (now (a .references)) (l .k) 0)) (numberOf (w .0 .0)) (sym (ap nextMeans (w .1)) ∙ c .before .before .before .read-next .ensures)) (c .before .before .before .before .before .loop-test .taken))
+    rw (stops look (now (a .references)) (alone (memoryOf (a .memory))) (l .k) (l .inv .1 .0) (numberOf (w .0 .0)) (l .inv .1 .1)
+    (sym (ap nextMeans (w .1)) ∙ c .before .before .before .read-next .ensures) (c .before .before .before .before .before .loop-test .taken))
 
 add-k : tie.Need-add-k Inv-loop μ-loop
 add-k c = search needs

@@ -1,6 +1,5 @@
 -- What is read, in one memory: its flat words as they stand, and its reach (`read-alone`).
 use mathlib.Core.Path.{_≡_, refl, sym, ap, ap₂, _∙_}
-use mathlib.Core.Bool.{true}
 use Prim.Native.Nat.{ℕ}
 use denote.Ref.{now}
 use Rattle.canon.specs.Answer.{is, andThen}
@@ -11,8 +10,7 @@ use Rattle.types.specs.Means.{memoryOf}
 use Rattle.table.specs.Means.{infoMeans, foundMeans, foundGood}
 use Rattle.table.specs.Rows.{rowIn}
 use Rattle.table.specs.declared.reach.Reach.{Reach}
-use Rattle.questions.specs.Gathers.{Together}
-use Rattle.questions.specs.Means.{definedMeans, definedGood}
+use Rattle.questions.specs.Means.{namedMeans, namedGood}
 use Rattle.questions.proofs.References.{read-plain}
 use Rattle.questions.proofs.WellFormed.{row-reach, read-alone}
 use borrow.Author.Needs.{needs}
@@ -47,8 +45,8 @@ unfolding andThen
 returns-2 c = let a = c .before .before .before .before .before .args in
     rw (read-plain (now (a .table)) (a .n) (a .reference) (c .before .before .before .if1 .taken), ← c .before .before .plain-info .ensures .0, c .enum-told .given .1)
 
-row-of-requires : tie.Need-row-of-requires
-row-of-requires c κs = search needs
+row-named-requires : tie.Need-row-named-requires
+row-named-requires c κs = search needs
 
 enum-known-index : tie.Need-enum-known-index
 enum-known-index c = search needs
@@ -66,17 +64,17 @@ returns-3 : tie.Need-returns-3
 unfolding andThen
 returns-3 c = let a = c .before .before .before .before .before .before .before .before .args in
     let t = now (a .table) in
-    let d = c .before .before .before .before .before .row-of in
+    let d = c .before .before .before .before .before .row-named in
     let j = c .before .before .before .index .given in
     let r = rowIn t (j .0 .0 .0) in
-    let e : read t (a .n) (a .reference) ≡ is (rowInfo r) = sym (d .ensures .0) ∙ ap (definedMeans t) (j .1) in
+    let e : read t (a .n) (a .reference) ≡ is (rowInfo r) = sym (d .ensures .0) ∙ ap (namedMeans t) (j .1) in
     rw e
     (ap₂ (λ (p : Packed) (v : ℕ). is (record { flat = p; reach = v })) (c .before .row-flat .ensures) (ap (λ (x : Reach). x .0) (c .row-reach .ensures))
-    ∙ ap is (read-alone (memoryOf (a .memory)) t (a .n) (a .reference) (word r 5) (word r 15) (rowInfo r) e refl refl (row-reach r (sym (ap (definedGood t) (j .1)) ∙ d .ensures .1))))
+    ∙ ap is (read-alone (memoryOf (a .memory)) t (a .n) (a .reference) (word r 5) (word r 15) (rowInfo r) e refl refl (row-reach r (sym (ap (namedGood t) (j .1)) ∙ d .ensures .1))))
 
 returns-4 : tie.Need-returns-4
 unfolding andThen
-returns-4 c = rw (← c .before .before .before .row-of .ensures .0, c .before .why .given .1)
+returns-4 c = rw (← c .before .before .before .row-named .ensures .0, c .before .why .given .1)
 
 pub read-next-spec : {M : Type 1} → statement M
 read-next-spec =
@@ -88,7 +86,7 @@ read-next-spec =
     enum-told
     returns
     returns-2
-    row-of-requires
+    row-named-requires
     enum-known-index
     row-flat-requires
     row-reach-requires

@@ -26,8 +26,8 @@ returns-2 : tie.Need-returns-2
 unfolding read andThen
 returns-2 c = simp (lt-leb _ _ (c .before .before .before .if1 .taken), ← c .before .before .plain-info .ensures .0, c .enum-told .given .1)
 
-row-of-requires : tie.Need-row-of-requires
-row-of-requires c κs = search needs
+row-named-requires : tie.Need-row-named-requires
+row-named-requires c κs = search needs
 
 enum-known-index : tie.Need-enum-known-index
 enum-known-index c = search needs
@@ -40,11 +40,11 @@ enum-known-why c = search needs
 
 returns-3 : tie.Need-returns-3
 unfolding andThen
-returns-3 c = rw (← c .before .before .before .before .row-of .ensures .0, c .before .before .index .given .1, c .row-layout .ensures)
+returns-3 c = rw (← c .before .before .before .before .row-named .ensures .0, c .before .before .index .given .1, c .row-layout .ensures)
 
 returns-4 : tie.Need-returns-4
 unfolding andThen
-returns-4 c = rw (← c .before .before .before .row-of .ensures .0, c .before .why .given .1)
+returns-4 c = rw (← c .before .before .before .row-named .ensures .0, c .before .why .given .1)
 
 pub read-member-spec : {M : Type 1} → statement M
 read-member-spec =
@@ -56,7 +56,7 @@ read-member-spec =
     enum-told
     returns
     returns-2
-    row-of-requires
+    row-named-requires
     enum-known-index
     row-layout-requires
     enum-known-why

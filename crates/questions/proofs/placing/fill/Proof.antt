@@ -14,8 +14,8 @@ use Rattle.canon.proofs.Questions.{read-aligned}
 use Rattle.canon.proofs.Tests.{impossible}
 use Rattle.types.specs.Means.{memoryOf, numberOf, layoutMeans}
 use Rattle.questions.specs.Means.{memberMeans}
-use Rattle.questions.specs.Steps.{layoutOf, nextPlace}
-use Rattle.questions.proofs.References.{part-is, part-no, Read, begins, goes-on, stops, ends}
+use Rattle.questions.specs.Steps.{infoLayout, nextPlace}
+use Rattle.questions.proofs.References.{part-is, Read, begins, goes-on, stops, ends}
 use Rattle.questions.proofs.Members.{layouts-more, Stands, Staged, nothing-stands, stands-more, staged-more, finish-is, placed-is}
 use borrow.Author.Needs.{needs}
 use Rattle.questions.proofs.placing.fill.Statement.{statement}
@@ -80,8 +80,8 @@ returns c = let a = c .before .before .before .before .before .before .before .b
     let w = c .before .why .given in
     let look = read (now (a .table)) (a .n) in
     let e =
-    stops look (now (a .references)) (l .k) (l .inv .2 .0) (numberOf (w .0 .0)) (l .inv .2 .1)
-    (part-no (layoutOf (memoryOf (a .memory))) (look (getD (now (a .references)) (l .k) 0)) (numberOf (w .0 .0)) (sym (ap memberMeans (w .1)) ∙ c .before .before .before .read-member .ensures)) (c .before .before .before .before .before .loop-test .taken) in
+    stops look (now (a .references)) (infoLayout (memoryOf (a .memory))) (l .k) (l .inv .2 .0) (numberOf (w .0 .0)) (l .inv .2 .1)
+    (sym (ap memberMeans (w .1)) ∙ c .before .before .before .read-member .ensures) (c .before .before .before .before .before .loop-test .taken) in
     (rw e, λ p f. impossible (let g = rw e at f in cc))
 
 add-k : tie.Need-add-k Inv-loop μ-loop
@@ -102,7 +102,7 @@ loop-again c = let s = c .before .before .before .before .before .before .before
     let done = l .inv .2 .0 in
     let g = c .before .before .layout .given in
     let f = layoutMeans (g .0 .0) in
-    let r = part-is (layoutOf m) (look w) f (sym (ap memberMeans (g .1)) ∙ c .before .before .before .before .read-member .ensures) in
+    let r = part-is (infoLayout m) (look w) f (sym (ap memberMeans (g .1)) ∙ c .before .before .before .before .read-member .ensures) in
     let q = c .next .ensures ∙ ap (λ (x : Layout). nextPlace (l .placed) x (record { 0 = l .k })) (sym (r .2)) in
     let al = read-aligned m (now (a .table)) (a .n) w (r .0) (r .1) in (
       search needs,
@@ -110,9 +110,9 @@ loop-again c = let s = c .before .before .before .before .before .before .before
       (
         done ++ r .0 ∷ [],
         goes-on look (now (a .references)) (l .k) done (r .0) (l .inv .2 .1) (r .1) test,
-        rw (layouts-more m done (r .0)) (stands-more (l .placed) (layoutsIn m done) (l .k) (l .inv .2 .2) (layoutOf m (r .0)) al (c .next .result) q),
+        rw (layouts-more m done (r .0)) (stands-more (l .placed) (layoutsIn m done) (l .k) (l .inv .2 .2) (infoLayout m (r .0)) al (c .next .result) q),
         rw (layouts-more m done (r .0))
-            (staged-more (l .placed) (layoutsIn m done) (l .k) (l .inv .2 .2) (layoutOf m (r .0)) al (c .next .result) q (l .stage) (l .inv .2 .3) (omega (arith, test, l .inv .1, s .pre .2))),
+            (staged-more (l .placed) (layoutsIn m done) (l .k) (l .inv .2 .2) (infoLayout m (r .0)) al (c .next .result) q (l .stage) (l .inv .2 .3) (omega (arith, test, l .inv .1, s .pre .2))),
       ),
     )
 

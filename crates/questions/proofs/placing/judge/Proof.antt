@@ -1,6 +1,6 @@
 -- The loop's invariant: these infos have been read, the members stand as canon places them, and the memo has what was read (`goes-on`, `stands-more`, `Recalled`).
 use borrow.Author.Count.{below-more}
-use mathlib.Core.Path.{_≡_, refl, sym, ap, _∙_}
+use mathlib.Core.Path.{_≡_, sym, ap, _∙_}
 use mathlib.Core.List.{List, [], _∷_, _++_}
 use Prim.Native.Nat.{ℕ, _-_, _≤_, _<_}
 use native.Mathlib.Nat.{le-antisymm}
@@ -15,8 +15,8 @@ use Rattle.canon.proofs.Questions.{read-aligned}
 use Rattle.canon.proofs.Tests.{impossible}
 use Rattle.types.specs.Means.{memoryOf, numberOf, layoutMeans}
 use Rattle.questions.specs.Means.{memberMeans}
-use Rattle.questions.specs.Steps.{layoutOf, memberOf, nextPlace, Remembers}
-use Rattle.questions.proofs.References.{part-is, part-no, Read, begins, goes-on, stops, ends}
+use Rattle.questions.specs.Steps.{infoLayout, memberLayout, nextPlace, Remembers}
+use Rattle.questions.proofs.References.{part-is, Read, begins, goes-on, stops, ends}
 use Rattle.questions.proofs.Members.{layouts-more, Stands, nothing-stands, stands-more, finish-is, placed-is}
 use Rattle.questions.proofs.Memos.{known-all}
 use borrow.Author.Needs.{needs}
@@ -28,7 +28,7 @@ Inv-loop memory table n references memo₀ placed₀ k₀ memo placed k =
     (k ≤ length references)
     × (length memo ≡ 1088)
     × ((done : List Info) × Read (read table n) references k done × Stands placed (layoutsIn (memoryOf memory) done) k)
-    × Remembers (memberOf (memoryOf memory) table n) memo
+    × Remembers (memberLayout (memoryOf memory) table n) memo
     × ((j : ℕ) → j < k → 0 < getD memo (getD references j 0) 0)
 
 abbrev μ-loop : tie.MeasureT-loop
@@ -74,8 +74,8 @@ returns c = let a = c .before .before .before .before .before .before .before .b
     let w = c .before .why .given in
     let look = read (now (a .table)) (a .n) in
     let e =
-    stops look (now (a .references)) (l .k) (l .inv .2 .0) (numberOf (w .0 .0)) (l .inv .2 .1)
-    (part-no (layoutOf (memoryOf (a .memory))) (look (getD (now (a .references)) (l .k) 0)) (numberOf (w .0 .0)) (sym (ap memberMeans (w .1)) ∙ c .before .before .before .before .before .recall .ensures .0)) (c .before .before .before .before .before .before .before .before .loop-test .taken) in
+    stops look (now (a .references)) (infoLayout (memoryOf (a .memory))) (l .k) (l .inv .2 .0) (numberOf (w .0 .0)) (l .inv .2 .1)
+    (sym (ap memberMeans (w .1)) ∙ c .before .before .before .before .before .recall .ensures .0) (c .before .before .before .before .before .before .before .before .loop-test .taken) in
     (rw e, λ p f. impossible (let g = rw e at f in cc))
 
 add-k : tie.Need-add-k Inv-loop μ-loop
@@ -96,7 +96,7 @@ loop-again c = let s = c .before .before .before .before .before .before .before
     let rc = c .before .before .before .before .before .before .recall in
     let g = c .before .before .layout .given in
     let f = layoutMeans (g .0 .0) in
-    let r = part-is (layoutOf m) (look w) f (sym (ap memberMeans (g .1)) ∙ rc .ensures .0) in
+    let r = part-is (infoLayout m) (look w) f (sym (ap memberMeans (g .1)) ∙ rc .ensures .0) in
     let q = c .next .ensures ∙ ap (λ (x : Layout). nextPlace (l .placed) x (record { 0 = l .k })) (sym (r .2)) in
     let al = read-aligned m (now (a .table)) (a .n) w (r .0) (r .1) in (
       search needs,
@@ -104,7 +104,7 @@ loop-again c = let s = c .before .before .before .before .before .before .before
       (
         done ++ r .0 ∷ [],
         goes-on look (now (a .references)) (l .k) done (r .0) (l .inv .2 .1) (r .1) test,
-        rw (layouts-more m done (r .0)) (stands-more (l .placed) (layoutsIn m done) (l .k) (l .inv .2 .2) (layoutOf m (r .0)) al (c .next .result) q),
+        rw (layouts-more m done (r .0)) (stands-more (l .placed) (layoutsIn m done) (l .k) (l .inv .2 .2) (infoLayout m (r .0)) al (c .next .result) q),
       ),
       rc .ensures .1 .holds,
       below-more _ _ (λ j h. rc .ensures .1 .keeps _ (l .inv .4 j h)) (rc .ensures .1 .found f (sym (rc .ensures .0) ∙ ap memberMeans (g .1))),

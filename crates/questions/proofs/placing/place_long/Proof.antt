@@ -5,7 +5,7 @@ use lib.ListN.{length, length-map}
 use Rattle.canon.specs.Layout.{starts}
 use Rattle.types.specs.Means.{memoryOf}
 use Rattle.questions.specs.Means.{layoutAnswerMeans}
-use Rattle.questions.specs.Steps.{memberOf, known}
+use Rattle.questions.specs.Steps.{memberLayout, known}
 use Rattle.questions.proofs.Members.{answered, untouched, written, length-starts}
 use Rattle.questions.proofs.Memos.{remembers-none}
 use borrow.Author.Needs.{needs}
@@ -17,7 +17,7 @@ slice-aggregate-judge c = search needs
 
 judge-requires : tie.Need-judge-requires
 judge-requires c κs = let s = c .before .before .before .before in
-    (s .pre .0, s .pre .1, refl, remembers-none (memberOf (memoryOf (s .args .memory)) (now (s .args .table)) (s .args .n)) 1088)
+    (s .pre .0, s .pre .1, refl, remembers-none (memberLayout (memoryOf (s .args .memory)) (now (s .args .table)) (s .args .n)) 1088)
 
 enum-known-layout : tie.Need-enum-known-layout
 enum-known-layout c = search needs

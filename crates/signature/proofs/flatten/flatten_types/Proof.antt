@@ -1,15 +1,11 @@
--- A bad maximum, or the infos that were read (`flattened-all`).
+-- A bad maximum, or the words that were gathered (`flatten-gathered`).
 use mathlib.Core.Path.{sym, ap, _∙_}
 use Prim.Native.Nat.{ℕ}
 use denote.Ref.{now}
-use Rattle.canon.specs.Answer.{ok, refused}
-use Rattle.canon.specs.Signature as canon
+use Rattle.canon.specs.Answer.{refused, then}
 use Rattle.types.specs.Means.{memoryOf}
-use Rattle.flat_types.specs.Lists.{words}
 use Rattle.questions.specs.Means.{gatheredMeans}
-use Rattle.signature.specs.Packs.{packedFlat}
-use Rattle.signature.proofs.Asking.{flattened-all, flattened-refused, maximum-bad, gathered-whole}
-use Rattle.signature.proofs.Maxima.{at-most-packed}
+use Rattle.signature.proofs.Asking.{flatten-gathered, maximum-bad, gathered-whole}
 use borrow.Author.Needs.{needs}
 use Rattle.signature.proofs.flatten.flatten_types.Statement.{statement}
 use Rattle.signature.proofs.flatten.flatten_types.Tie as tie
@@ -40,18 +36,17 @@ enum-known-why : tie.Need-enum-known-why
 enum-known-why c = search needs
 
 returns-2 : tie.Need-returns-2
+unfolding then
 returns-2 c =
     let a = c .before .before .before .before .before .before .before .before .args in
-    let small = c .before .before .before .before .before .if1 .left in
-    flattened-all (memoryOf (a .memory)) (a .max) (now (a .table)) (a .n) (now (a .references)) small _ _
-    (sym (ap gatheredMeans (c .before .before .all .given .1)) ∙ c .before .before .before .before .gather .ensures)
-    (λ o e. c .at-most .ensures ∙ ap (λ (f : canon.Flattened). ok (packedFlat f)) (at-most-packed (a .max) o _ small e))
+    c .at-most .ensures
+    ∙ rw (flatten-gathered (memoryOf (a .memory)) (a .max) (now (a .table)) (a .n) (now (a .references)) (c .before .before .before .before .before .if1 .left), ← c .before .before .before .before .gather .ensures, c .before .before .all .given .1)
 
 returns-3 : tie.Need-returns-3
+unfolding then
 returns-3 c =
     let a = c .before .before .before .before .before .before .before .args in
-    flattened-refused (memoryOf (a .memory)) (a .max) (now (a .table)) (a .n) (now (a .references)) (c .before .before .before .before .if1 .left) _ _
-    (sym (ap gatheredMeans (c .before .why .given .1)) ∙ c .before .before .before .gather .ensures)
+    rw (flatten-gathered (memoryOf (a .memory)) (a .max) (now (a .table)) (a .n) (now (a .references)) (c .before .before .before .before .if1 .left), ← c .before .before .before .gather .ensures, c .before .why .given .1)
 
 pub flatten-types-spec : {M : Type 1} → statement M
 flatten-types-spec =

@@ -1,15 +1,14 @@
--- The infos that were read (`two-signature`) decide, and whether lower has references.
+-- The words of the two lists decide (`two-signature`), and whether lower has references.
 use mathlib.Core.Path.{sym, ap, _∙_}
 use denote.Ref.{now}
 use lib.Dec.{eqb}
 use lib.ListN.{length}
-use Rattle.canon.specs.Answer.{then}
-use Rattle.canon.specs.Signature as canon
-use Rattle.canon.specs.Signature.{flatAll, returnOf, asyncReturnAnswer}
+use Rattle.canon.specs.Answer.{ok, then}
+use Rattle.canon.specs.Signature.{returnOf, asyncReturnAnswer}
 use Rattle.types.specs.Means.{memoryOf}
-use Rattle.signature.specs.Means.{sideMeans, twoMeans}
-use Rattle.signature.specs.Packs.{packedSignature, Lists}
-use Rattle.signature.proofs.Asking.{two-signature, two-refused, two-whole}
+use Rattle.questions.specs.Means.{twoMeans}
+use Rattle.signature.specs.Means.{sideMeans}
+use Rattle.signature.proofs.Asking.{two-signature, two-whole}
 use Rattle.signature.proofs.Maxima.{return-packed}
 use borrow.Author.Needs.{needs}
 use Rattle.signature.proofs.signatures.async_return_signature.Statement.{statement}
@@ -35,12 +34,9 @@ returns c =
     let a = c .before .before .before .before .before .before .before .before .args in
     let lower = sideMeans (a .lower) in
     let lift = sideMeans (a .lift) in
-    two-signature (now (a .table)) (a .n) (lift .memory) (lower .memory) (now (a .lifted)) (now (a .lowered))
-    (λ is′ js. returnOf lift (flatAll (lift .memory) is′) lower (flatAll (lower .memory) js) (eqb (length (now (a .lowered))) 0)) _ _
-    (sym (ap twoMeans (c .before .before .params .given .1)) ∙ c .before .before .before .before .gather-two .ensures)
-    (λ is′ js e.
-    c .return-of .ensures
-    ∙ ap packedSignature (return-packed lift lower (flatAll (lift .memory) is′) (flatAll (lower .memory) js) _ _ (eqb (length (now (a .lowered))) 0) (ap (λ (x : Lists). x .first) e) (ap (λ (x : Lists). x .second) e)))
+    let empty = eqb (length (now (a .lowered))) 0 in
+    ap ok (c .return-of .ensures)
+    ∙ rw (two-signature (now (a .table)) (a .n) (lift .memory) (lower .memory) (now (a .lifted)) (now (a .lowered)) (λ o q. returnOf lift o lower q empty) (return-packed lift lower empty), ← c .before .before .before .before .gather-two .ensures, c .before .before .params .given .1)
 
 returns-2 : tie.Need-returns-2
 unfolding asyncReturnAnswer then
@@ -48,9 +44,8 @@ returns-2 c =
     let a = c .before .before .before .before .before .before .before .args in
     let lower = sideMeans (a .lower) in
     let lift = sideMeans (a .lift) in
-    two-refused (now (a .table)) (a .n) (lift .memory) (lower .memory) (now (a .lifted)) (now (a .lowered))
-    (λ is′ js. returnOf lift (flatAll (lift .memory) is′) lower (flatAll (lower .memory) js) (eqb (length (now (a .lowered))) 0)) _ _
-    (sym (ap twoMeans (c .before .why .given .1)) ∙ c .before .before .before .gather-two .ensures)
+    let empty = eqb (length (now (a .lowered))) 0 in
+    rw (two-signature (now (a .table)) (a .n) (lift .memory) (lower .memory) (now (a .lifted)) (now (a .lowered)) (λ o q. returnOf lift o lower q empty) (return-packed lift lower empty), ← c .before .before .before .gather-two .ensures, c .before .why .given .1)
 
 pub async-return-signature-spec : {M : Type 1} → statement M
 async-return-signature-spec =

@@ -1,15 +1,14 @@
--- The infos that were read (`two-signature`) decide.
+-- The words of the two lists decide (`two-signature`).
 use mathlib.Core.Path.{sym, ap, _∙_}
 use native.Mathlib.Omega.{arith}
 use denote.Ref.{now}
-use Rattle.canon.specs.Answer.{then}
-use Rattle.canon.specs.Signature as canon
-use Rattle.canon.specs.Signature.{flatAll, paramsMax, orPointer, startOf, asyncStartAnswer}
+use Rattle.canon.specs.Answer.{ok, then}
+use Rattle.canon.specs.Signature.{startOf, asyncStartAnswer}
 use Rattle.types.specs.Means.{memoryOf}
-use Rattle.signature.specs.Means.{sideMeans, twoMeans}
-use Rattle.signature.specs.Packs.{packedList, Lists}
-use Rattle.signature.proofs.Asking.{two-signature, two-refused, two-whole}
-use Rattle.signature.proofs.Maxima.{at-most-packed, maximum-small}
+use Rattle.questions.specs.Means.{twoMeans}
+use Rattle.signature.specs.Means.{sideMeans}
+use Rattle.signature.proofs.Asking.{two-signature, two-whole}
+use Rattle.signature.proofs.Maxima.{maximum-small, start-packed}
 use borrow.Author.Needs.{needs}
 use Rattle.signature.proofs.signatures.async_start_signature.Statement.{statement}
 use Rattle.signature.proofs.signatures.async_start_signature.Tie as tie
@@ -46,17 +45,10 @@ returns c =
     let a = c .before .before .before .before .before .before .before .before .before .before .args in
     let lower = sideMeans (a .lower) in
     let lift = sideMeans (a .lift) in
-    two-signature (now (a .table)) (a .n) (lower .memory) (lift .memory) (now (a .lowered)) (now (a .lifted))
-    (λ is′ js. startOf lower (flatAll (lower .memory) is′) lift (flatAll (lift .memory) js)) _ _
-    (sym (ap twoMeans (c .before .before .before .before .params .given .1)) ∙ c .before .before .before .before .before .before .gather-two .ensures)
-    (λ is′ js e.
-    let p =
-    (rw (c .before .before .params-max .ensures) at (c .before .or-pointer .ensures))
-    ∙ ap (λ (f : canon.Flattened). packedList (orPointer (lower .memory) f)) (at-most-packed (paramsMax (lower .async)) (flatAll (lower .memory) is′) _ (maximum-small (lower .async) 4 16 (omega arith) (omega arith)) (ap (λ (x : Lists). x .first) e)) in
-    let r =
-    c .or-pointer2 .ensures
-    ∙ ap (λ (f : canon.Flattened). packedList (orPointer (lift .memory) f)) (at-most-packed 16 (flatAll (lift .memory) js) _ (omega arith) (ap (λ (x : Lists). x .second) e)) in
-    λ i. record { params = p i; results = r i })
+    let params = rw (c .before .before .params-max .ensures) at (c .before .or-pointer .ensures) in
+    let results = c .or-pointer2 .ensures in
+    (λ i. ok (record { params = params i; results = results i }))
+    ∙ rw (two-signature (now (a .table)) (a .n) (lower .memory) (lift .memory) (now (a .lowered)) (now (a .lifted)) (λ o q. startOf lower o lift q) (start-packed lower lift), ← c .before .before .before .before .before .before .gather-two .ensures, c .before .before .before .before .params .given .1)
 
 returns-2 : tie.Need-returns-2
 unfolding asyncStartAnswer then
@@ -64,9 +56,7 @@ returns-2 c =
     let a = c .before .before .before .before .before .before .before .args in
     let lower = sideMeans (a .lower) in
     let lift = sideMeans (a .lift) in
-    two-refused (now (a .table)) (a .n) (lower .memory) (lift .memory) (now (a .lowered)) (now (a .lifted))
-    (λ is′ js. startOf lower (flatAll (lower .memory) is′) lift (flatAll (lift .memory) js)) _ _
-    (sym (ap twoMeans (c .before .why .given .1)) ∙ c .before .before .before .gather-two .ensures)
+    rw (two-signature (now (a .table)) (a .n) (lower .memory) (lift .memory) (now (a .lowered)) (now (a .lifted)) (λ o q. startOf lower o lift q) (start-packed lower lift), ← c .before .before .before .gather-two .ensures, c .before .why .given .1)
 
 pub async-start-signature-spec : {M : Type 1} → statement M
 async-start-signature-spec =

@@ -1,5 +1,4 @@
 -- The loop's invariant: what is left to store, stored, makes the whole (`put-step`, `put-none`).
-use denote.Ref.{now}
 use lib.ListN.{length, drop, length-set}
 use mathlib.Core.Path.{_≡_, refl, sym, _∙_}
 use Prim.Native.Nat.{_+_, _-_, _≤_}

@@ -1,8 +1,5 @@
 -- The discriminant, then the reach.
-use mathlib.Core.Path.{ap}
 use Rattle.canon.specs.Row.{isDiscriminant}
-use Rattle.table.specs.declared.reach.Reach.{Reach}
-use Rattle.canon.specs.Reach.{goodReach}
 use Rattle.table.proofs.Reading.{discriminant-is, discriminant-over}
 use borrow.Author.Needs.{needs}
 use Rattle.table.proofs.read.good_rest.Statement.{statement}

@@ -38,8 +38,8 @@ row-layouts-requires c κs = search needs
 is-good-requires : tie.Need-is-good-requires
 is-good-requires c κs = search needs
 
-flat-types-requires : tie.Need-flat-types-requires
-flat-types-requires c κs = search needs
+row-types-requires : tie.Need-row-types-requires
+row-types-requires c κs = search needs
 
 is-good-requires-2 : tie.Need-is-good-requires-2
 is-good-requires-2 c κs = search needs
@@ -58,7 +58,7 @@ returns-3 c = let a = c .before .before .before .before .before .before .before 
       ← ap goodLayouts (c .before .before .before .before .before .before .row-layouts .ensures),
       ← c .before .before .before .before .before .is-good .ensures,
       c .before .before .before .before .if3 .taken,
-      ← ap₂ goodTypes (ap countOf (c .before .before .before .flat-types .ensures .count)) (c .before .before .before .flat-types .ensures .flats),
+      ← ap₂ goodTypes (ap countOf (c .before .before .before .row-types .ensures .count)) (c .before .before .before .row-types .ensures .flats),
       ← c .before .before .is-good2 .ensures,
       c .before .if4 .taken,
     )
@@ -75,7 +75,7 @@ returns-4 c = let a = c .before .before .before .before .before .before .before 
       ← ap goodLayouts (c .before .before .before .before .before .row-layouts .ensures),
       ← c .before .before .before .before .is-good .ensures,
       c .before .before .before .if3 .taken,
-      ← ap₂ goodTypes (ap countOf (c .before .before .flat-types .ensures .count)) (c .before .before .flat-types .ensures .flats),
+      ← ap₂ goodTypes (ap countOf (c .before .before .row-types .ensures .count)) (c .before .before .row-types .ensures .flats),
       ← c .before .is-good2 .ensures,
       c .if4 .left,
     )
@@ -102,7 +102,7 @@ is-good-row-spec =
     returns-2
     row-layouts-requires
     is-good-requires
-    flat-types-requires
+    row-types-requires
     is-good-requires-2
     good-rest-requires
     returns-3

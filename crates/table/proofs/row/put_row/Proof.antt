@@ -9,11 +9,6 @@ use Rattle.table.proofs.Reading.{put-there, put-missing}
 use borrow.Author.Needs.{needs}
 use Rattle.table.proofs.row.put_row.Statement.{statement}
 use Rattle.table.proofs.row.put_row.Tie as tie
-use Rattle.table.proofs.row.put_row.Reads as reads
-use Rattle.table.proofs.row.put_row.Lts as lts
-use Rattle.table.proofs.cells.capacity.Reads as capacity-reads
-use Rattle.table.proofs.cells.put_words.Reads as put-words-reads
-use Rattle.table.proofs.row.row_words.Reads as row-words-reads
 
 capacity-requires : tie.Need-capacity-requires
 capacity-requires c κs = search needs

@@ -1,8 +1,6 @@
--- The places of the packed scalars one by one, String by itself, nothing past the last.
+-- String by itself, nothing past the last, each scalar at its place in the constant (`scalar-code`).
 use mathlib.Core.Path.{_≡_, refl}
-use Prim.Native.Nat.{_*_, _/_, _^_}
 use native.Mathlib.Omega.{arith}
-use lib.Bits.{bitAnd}
 use lib.ListN.{getElem?}
 use Rattle.canon.specs.Answer.{lift}
 use Rattle.canon.specs.Flat.{flatten}
@@ -12,7 +10,7 @@ use Rattle.canon.specs.Types.{plain}
 use Rattle.flat_types.specs.Lists.{packedTo, packed, halves}
 use Rattle.flat_types.proofs.Halves.{twice-is}
 use Rattle.flat_types.proofs.Listing.{holds, holds-none}
-use Rattle.flat_types.proofs.References.{scalar, past, code-small, code-fits}
+use Rattle.flat_types.proofs.References.{codeAt, scalar-code, past, code-small, code-fits}
 use borrow.Author.Needs.{needs}
 use Rattle.flat_types.proofs.both.FlatTypes.plain.Statement.{statement}
 use Rattle.flat_types.proofs.both.FlatTypes.plain.Tie as tie
@@ -45,12 +43,9 @@ mul-t5 : tie.Need-mul-t5
 mul-t5 c = search (needs, code-fits)
 
 returns-3 : tie.Need-returns-3
-unfolding packedTo pack flatten
 returns-3 c =
-    let a = c .before .before .args in
-    let code = bitAnd (3751936 / 2 ^ (a .reference * 2)) 3 in
-    let each = scalar _ (λ _ m. refl, (λ _ m. refl, (λ _ m. refl, (λ _ m. refl, (λ _ m. refl, (λ _ m. refl, (λ _ m. refl, (λ _ m. refl, (λ _ m. refl, (λ _ m. refl, (λ _ m. refl, (λ _ m. refl, (λ string m. absurd (string refl), (λ _ m. refl, (λ _ m. refl, (λ _ m. refl, (λ _ m. refl, (λ _ m. refl, tt)))))))))))))))))) (a .reference) (omega arith) (c .if2 .left) in
-    holds (λ m. lift (flatten m) (getElem? plain (a .reference))) (λ m. code) (twice-is code) (code-small (3751936 / 2 ^ (a .reference * 2))) each
+    let k = c .before .before .args .reference in
+    holds (λ m. lift (flatten m) (getElem? plain k)) (λ m. codeAt k) (twice-is (codeAt k)) (code-small k) (λ m. scalar-code m k (omega arith) (c .if2 .left))
 
 pub plain-spec : {M : Type 1} → statement M
 plain-spec = tie.close (tie.spec returns returns-2 mul-code cast-code shr-code mul-t5 returns-3)

@@ -1,14 +1,12 @@
 -- The words as they stand (`halves-whole`).
 use mathlib.Core.Path.{ap, _∙_}
 use native.Mathlib.Omega.{arith}
-use Prim.Native.Nat.{ℕ}
-use Rattle.canon.specs.Layout.{Both}
 use Rattle.canon.specs.Pack.{Packed}
 use Rattle.flat_types.specs.Lists.{halves}
 use Rattle.table.proofs.Reading.{halves-whole}
 use borrow.Author.Needs.{needs}
-use Rattle.table.proofs.read.flat_types.Statement.{statement}
-use Rattle.table.proofs.read.flat_types.Tie as tie
+use Rattle.table.proofs.read.row_types.Statement.{statement}
+use Rattle.table.proofs.read.row_types.Tie as tie
 
 word-requires : tie.Need-word-requires
 word-requires c κs = search needs
@@ -29,6 +27,6 @@ returns c = let of = c .of .ensures in
       flats = ap (λ (p : Packed). halves (p .types)) of ∙ halves-whole _ (omega arith) ∙ rw (c .before .before .word2 .ensures, c .before .word3 .ensures);
     }
 
-pub flat-types-spec : {M : Type 1} → statement M
-flat-types-spec =
+pub row-types-spec : {M : Type 1} → statement M
+row-types-spec =
     tie.close (tie.spec word-requires word-requires-2 word-requires-3 of-requires returns)

@@ -4,8 +4,8 @@ use borrow.Author.Tests.{lt-ltb, le-ltb, le-leb}
 use Rattle.canon.specs.Question.{readRow, read}
 use Rattle.questions.proofs.References.{row-is}
 use borrow.Author.Needs.{needs}
-use Rattle.questions.proofs.read.row_of.Statement.{statement}
-use Rattle.questions.proofs.read.row_of.Tie as tie
+use Rattle.questions.proofs.read.row_named.Statement.{statement}
+use Rattle.questions.proofs.read.row_named.Tie as tie
 
 sub-t5 : tie.Need-sub-t5
 sub-t5 c = search needs
@@ -29,5 +29,5 @@ returns-3 : tie.Need-returns-3
 unfolding read
 returns-3 c = (rw (le-leb 64 _ (c .before .before .before .pre .1), le-ltb _ _ (c .if1 .left)), refl)
 
-pub row-of-spec : {M : Type 1} → statement M
-row-of-spec = tie.close (tie.spec sub-t5 is-good-row-requires returns returns-2 returns-3)
+pub row-named-spec : {M : Type 1} → statement M
+row-named-spec = tie.close (tie.spec sub-t5 is-good-row-requires returns returns-2 returns-3)
