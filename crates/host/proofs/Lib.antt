@@ -3,7 +3,6 @@ pub mod Chosen
 pub mod Packs
 pub mod Taken
 pub mod Several
-pub mod Sources
 pub mod Unique
 pub mod Decoded
 pub mod Short

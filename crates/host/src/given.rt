@@ -1,4 +1,4 @@
-// What the numbers that a host passes stand for.
+// Says what the numbers that a host passes stand for (docs/HOST.md).
 ghost use mathlib.Core.Path.{_≡_};
 ghost use Rattle.types.specs.Means.{memoryOf, countMeans, abiMeans};
 ghost use Rattle.signature.specs.Means.{sideMeans};
@@ -8,6 +8,7 @@ use types::CanonicalAbiInfo;
 use types::FlatCount;
 use types::Memory;
 
+// A memory is 0 for 32-bit, any other number for 64-bit.
 pub(crate) fn memory_at(memory: u32) -> Memory
     ensures { λ r. ⌜ memoryOf r ≡ memoryAt memory ⌝ }
 {
@@ -18,6 +19,7 @@ pub(crate) fn memory_at(memory: u32) -> Memory
     }
 }
 
+// A side is 0 for sync, any other number for async.
 fn is_set(x: u32) -> bool
     ensures { λ r. ⌜ r ≡ isSet x ⌝ }
 {
@@ -33,6 +35,7 @@ pub(crate) fn side_at(memory: u32, async_: u32) -> Side
     }
 }
 
+// None is 255, as in word 5 of a row, and every number above.
 pub(crate) fn flat_at(flat: u32) -> FlatCount
     ensures { λ r. ⌜ countMeans r ≡ flatAt flat ⌝ }
 {
@@ -43,15 +46,15 @@ pub(crate) fn flat_at(flat: u32) -> FlatCount
     }
 }
 
-// One count above 16 stands for all of them: such an info is bad, whichever it is.
+// None is 255. Of the counts above 16, 01's most, 17 stands for all: such an info is bad, whichever it is.
 fn info_flat_at(flat: u32) -> FlatCount
     ensures { λ r. ⌜ countMeans r ≡ infoFlatAt flat ⌝ }
 {
-    if flat == 255 {
-        return FlatCount::None;
-    }
     if flat <= 16 {
-        FlatCount::Count(flat as u8)
+        return FlatCount::Count(flat as u8);
+    }
+    if flat == 255 {
+        FlatCount::None
     } else {
         FlatCount::Count(17)
     }

@@ -1,4 +1,4 @@
-// The leaves, over numbers.
+// These calls put the leaves over numbers. A refusal is its number alone, as 01 says of leaf calls.
 ghost use mathlib.Core.Path.{_≡_};
 ghost use Prim.Native.Nat.{max};
 ghost use Rattle.canon.specs.Flat.{addFlat, maxFlat};
@@ -18,6 +18,7 @@ use types::CanonicalAbiInfo;
 use types::DiscriminantSize;
 use types::NextField;
 
+// Refuses BadRow for what is no alignment, then TooLarge for the rounded number.
 #[no_mangle]
 pub extern "C" fn lampughjata_align_to(a: u32, b: u32) -> u64
     ensures { λ r. ⌜ r ≡ leafNumber itself (alignTo a b) ⌝ }
@@ -25,6 +26,7 @@ pub extern "C" fn lampughjata_align_to(a: u32, b: u32) -> u64
     rounded_number(types::align_to(a, b))
 }
 
+// Refuses nothing.
 #[no_mangle]
 pub extern "C" fn lampughjata_max(a: u32, b: u32) -> u64
     ensures { λ r. ⌜ r ≡ max a b ⌝ }
@@ -32,6 +34,7 @@ pub extern "C" fn lampughjata_max(a: u32, b: u32) -> u64
     wide(types::max(a, b))
 }
 
+// Refuses nothing.
 #[no_mangle]
 pub extern "C" fn lampughjata_add_flat(a: u32, b: u32) -> u64
     ensures { λ r. ⌜ r ≡ countWord (addFlat (flatAt a) (flatAt b)) ⌝ }
@@ -39,6 +42,7 @@ pub extern "C" fn lampughjata_add_flat(a: u32, b: u32) -> u64
     wide(flat_number(types::add_flat(flat_at(a), flat_at(b))))
 }
 
+// Refuses nothing.
 #[no_mangle]
 pub extern "C" fn lampughjata_max_flat(a: u32, b: u32) -> u64
     ensures { λ r. ⌜ r ≡ countWord (maxFlat (flatAt a) (flatAt b)) ⌝ }
@@ -56,6 +60,7 @@ fn next_field(memory: u32, info: CanonicalAbiInfo, end: u32) -> NextField
     }
 }
 
+// Refuses BadRow for a bad info, then TooLarge for a start or an end in that memory.
 #[no_mangle]
 pub extern "C" fn lampughjata_next_field(
     memory: u32,
@@ -73,6 +78,7 @@ pub extern "C" fn lampughjata_next_field(
     field_number(next_field(memory, info, end), k)
 }
 
+// Refuses BadCount above 32 labels.
 #[no_mangle]
 pub extern "C" fn lampughjata_flags(count: u32, k: u32) -> u64
     ensures { λ r. ⌜ r ≡ leafNumber (λ a. chosen k (abiWords a)) (flagsAnswer count) ⌝ }
@@ -80,6 +86,7 @@ pub extern "C" fn lampughjata_flags(count: u32, k: u32) -> u64
     abi_number(CanonicalAbiInfo::flags(count), k)
 }
 
+// Refuses BadCount for no case.
 #[no_mangle]
 pub extern "C" fn lampughjata_enum(count: u32, k: u32) -> u64
     ensures { λ r. ⌜ r ≡ leafNumber (λ a. chosen k (abiWords a)) (enumAnswer count) ⌝ }
@@ -87,6 +94,7 @@ pub extern "C" fn lampughjata_enum(count: u32, k: u32) -> u64
     abi_number(CanonicalAbiInfo::enum_(count), k)
 }
 
+// Refuses BadRow for a bad info, then TooLarge for the size in either memory.
 #[no_mangle]
 pub extern "C" fn lampughjata_fixed_length_list(
     size32: u32,
@@ -103,6 +111,7 @@ pub extern "C" fn lampughjata_fixed_length_list(
     abi_number(info.fixed_length_list(count), k)
 }
 
+// Refuses BadCount for no case.
 #[no_mangle]
 pub extern "C" fn lampughjata_discriminant(count: u32) -> u64
     ensures { λ r. ⌜ r ≡ leafNumber itself (discriminantAnswer count) ⌝ }

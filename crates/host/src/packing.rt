@@ -1,4 +1,4 @@
-// Each answer as one number.
+// Packs each answer into one number; docs/HOST.md says which bits it takes.
 ghost use mathlib.Core.Path.{_≡_};
 ghost use Prim.Native.Nat.{_<_};
 ghost use lib.ListN.{length};
@@ -28,14 +28,14 @@ use types::Refusal;
 use types::Rounded;
 use types::VariantAnswer;
 
-// The lowest bit of a refusal's number, of a list's count and of an alignment.
+// A refusal's number starts at bit 56, a list's count at bit 40, an alignment at bit 32.
 const REFUSAL: u64 = 0x0100_0000_0000_0000;
 
 const COUNT: u64 = 0x0100_0000_0000;
 
 const ALIGN: u64 = 0x0001_0000_0000;
 
-// What is not flattened but goes through memory.
+// Bit 55 alone says "memory", in place of a list.
 const IN_MEMORY: u64 = 0x0080_0000_0000_0000;
 
 pub(crate) fn wide(x: u32) -> u64
@@ -51,7 +51,7 @@ pub(crate) fn refused(why: Refusal, at: u32) -> u64
     REFUSAL * number + at as u64
 }
 
-// The number k of these, the last for any k above.
+// Chooses the number k of these, the last for any k above.
 pub(crate) fn choose(words: &[u32], k: u32) -> u64
     requires { ⌜ 0 < length (now words) ⌝ }
     ensures { λ r. ⌜ r ≡ chosen k (now (words .entry)) ⌝ }
@@ -73,6 +73,7 @@ pub(crate) fn rounded_number(answer: Rounded) -> u64
     }
 }
 
+// None is answered as 255, as in word 5 of a row.
 pub(crate) fn flat_number(count: FlatCount) -> u32
     ensures { λ r. ⌜ r ≡ countWord (countMeans count) ⌝ }
 {
@@ -91,6 +92,7 @@ pub(crate) fn discriminant_number(answer: DiscriminantAnswer) -> u64
     }
 }
 
+// Gives the five numbers of an info, in the order of words 1 to 5 of a row.
 fn abi_words(info: CanonicalAbiInfo) -> [u32; 5]
     ensures { λ r. ⌜ r ≡ abiWords (abiMeans info) ⌝ }
 {
@@ -116,7 +118,7 @@ pub(crate) fn abi_number(answer: InfoAnswer, k: u32) -> u64
     }
 }
 
-// The numbers of a variant beside those of its info.
+// Packs the numbers that a variant has beside those of its info.
 pub(crate) fn inner_number(answer: VariantAnswer, k: u32) -> u64
     ensures { λ r. ⌜ r ≡ leafNumber (λ v. chosen k (innerWords v)) (variantMeans answer) ⌝ }
 {
@@ -161,6 +163,7 @@ fn bit(b: bool) -> u32
     if b { 1 } else { 0 }
 }
 
+// Gives the five numbers of an info, the two flat words and the borrow, in the order of docs/HOST.md.
 fn type_words(info: TypeInfo) -> [u32; 8]
     ensures { λ r. ⌜ r ≡ typeWords (typeInfoMeans info) ⌝ }
 {

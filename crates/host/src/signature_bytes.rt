@@ -1,4 +1,4 @@
-// Flattening and signatures, over bytes.
+// These calls flatten references and make signatures, over bytes. Each refuses as the call over words does (signatures.rt).
 ghost use mathlib.Core.Path.{_≡_};
 ghost use Rattle.canon.specs.Question.{borrowAnswer};
 ghost use Rattle.canon.specs.Signature.{flattenAnswer, loweringAnswer, liftingAnswer, asyncStartAnswer, asyncReturnAnswer};

@@ -1,4 +1,4 @@
-// Flattening and signatures, over words.
+// These calls flatten references and make signatures, over words. Of a bad reference BadRef comes before BadRow.
 ghost use mathlib.Core.Path.{_≡_};
 ghost use Rattle.canon.specs.Question.{borrowAnswer};
 ghost use Rattle.canon.specs.Signature.{flattenAnswer, loweringAnswer, liftingAnswer, asyncStartAnswer, asyncReturnAnswer};
@@ -16,6 +16,7 @@ use signature::flatten_lifting_types;
 use signature::flatten_lowering_types;
 use signature::flatten_types;
 
+// Refuses TooLong, then BadRow for the table, then BadCount for a maximum above 16, then the first bad reference.
 #[no_mangle]
 pub extern "C" fn lampughjata_flatten(
     memory: u32,
@@ -29,6 +30,7 @@ pub extern "C" fn lampughjata_flatten(
     flattened_number(flatten_types(memory_at(memory), max, table, rows, references))
 }
 
+// Refuses TooLong, then BadRow for the table, then the first bad reference.
 #[no_mangle]
 pub extern "C" fn lampughjata_lowering(
     memory: u32,
@@ -42,6 +44,7 @@ pub extern "C" fn lampughjata_lowering(
     flattened_number(flatten_lowering_types(side_at(memory, async_), table, rows, references))
 }
 
+// Refuses TooLong, then BadRow for the table, then the first bad reference.
 #[no_mangle]
 pub extern "C" fn lampughjata_lifting(
     memory: u32,
@@ -55,7 +58,7 @@ pub extern "C" fn lampughjata_lifting(
     flattened_number(flatten_lifting_types(side_at(memory, async_), table, rows, references))
 }
 
-// Whether lift is async plays no part in a start.
+// Refuses TooLong for either list, then BadRow for the table, then the first bad reference of lower's, then of lift's.
 #[no_mangle]
 pub extern "C" fn lampughjata_async_start(
     lower_memory: u32,
@@ -70,11 +73,13 @@ pub extern "C" fn lampughjata_async_start(
     ensures { λ r. ⌜ r ≡ answerNumber (λ s. chosen k (signatureLists s)) (packedAnswer (asyncStartAnswer (now (table .entry)) rows (sideAt «lower_memory» «lower_async») (now (lower .entry)) (sideAt «lift_memory» 0) (now (lift .entry)))) ⌝ }
 {
     let lowered = side_at(lower_memory, lower_async);
+    // Whether lift is async plays no part in a start: 0 says that it is not.
     let lifted = side_at(lift_memory, 0);
     let answer = async_start_signature(table, rows, lowered, lower, lifted, lift);
     signature_number(answer, k)
 }
 
+// Refuses TooLong for either list, then BadRow for the table, then the first bad reference of lift's, then of lower's.
 #[no_mangle]
 pub extern "C" fn lampughjata_async_return(
     lift_memory: u32,
@@ -95,6 +100,7 @@ pub extern "C" fn lampughjata_async_return(
     signature_number(answer, k)
 }
 
+// Refuses TooLong, then BadRow for the table, then the first bad reference.
 #[no_mangle]
 pub extern "C" fn lampughjata_contains_borrow(table: &[u32], rows: u32, references: &[u32]) -> u64
     ensures { λ r. ⌜ r ≡ answerNumber yesNumber (borrowAnswer (now (table .entry)) rows (now (references .entry))) ⌝ }

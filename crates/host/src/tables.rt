@@ -1,4 +1,4 @@
-// A build, and the questions on layout, over words.
+// These calls build a table and ask it for types and layouts, over words. Of a bad reference BadRef comes before BadRow.
 ghost use mathlib.Core.Path.{_≡_};
 ghost use lib.ListN.{length};
 ghost use Rattle.canon.specs.Description.{buildAnswer, tableAfter};
@@ -13,6 +13,7 @@ use questions::canonical_abi;
 use questions::placement;
 use questions::size_align;
 
+// Refuses TooLong; then for each definition NoRoom, BadKind, Truncated, BadCount, BadRef, TooLarge in either memory.
 #[no_mangle]
 pub extern "C" fn lampughjata_build(words: &[u32], table: &mut [u32]) -> u64
     ensures { λ r. ⌜ r ≡ answerNumber itself (buildAnswer (now (words .entry)) (now (table .entry))) ⌝ }
@@ -21,6 +22,7 @@ pub extern "C" fn lampughjata_build(words: &[u32], table: &mut [u32]) -> u64
     built_number(build::build(words, table))
 }
 
+// Refuses BadRow for the table, then a bad reference.
 #[no_mangle]
 pub extern "C" fn lampughjata_type(table: &[u32], rows: u32, reference: u32, k: u32) -> u64
     ensures { λ r. ⌜ r ≡ answerNumber (λ i. chosen k (typeWords i)) (typeAnswer (now (table .entry)) rows reference) ⌝ }
@@ -28,6 +30,7 @@ pub extern "C" fn lampughjata_type(table: &[u32], rows: u32, reference: u32, k: 
     type_number(canonical_abi(table, rows, reference), k)
 }
 
+// Refuses BadRow for the table, then a bad reference.
 #[no_mangle]
 pub extern "C" fn lampughjata_size_align(
     memory: u32,
@@ -40,6 +43,7 @@ pub extern "C" fn lampughjata_size_align(
     layout_number(size_align(memory_at(memory), table, rows, reference))
 }
 
+// Refuses TooLong, then BadRow for the table, then NoRoom, then the first bad reference, then TooLarge in its memory.
 #[no_mangle]
 pub extern "C" fn lampughjata_placement(
     memory: u32,

@@ -1,67 +1,91 @@
-// A variant of cases, over words and over bytes.
+// These calls answer for a variant of cases, each six words of four bytes; the first five of its numbers are the info's (docs/HOST.md). The call over
+// bytes refuses as the one over words does.
 ghost use mathlib.Core.Path.{_≡_};
-ghost use Prim.Native.Nat.{_+_, _^_, _<_};
+ghost use Prim.Native.Nat.{_+_, _/_, _≤_};
+ghost use lib.ListN.{length};
 ghost use Rattle.types.specs.Leaves.{variantAnswer};
 ghost use Rattle.types.specs.States.{casesMeans, noCases, addCase, addCases};
 ghost use Rattle.words.specs.Words.{wholeWords};
 ghost use Rattle.host.specs.Infos.{caseAt, casesOf};
 ghost use Rattle.host.specs.Numbers.{leafNumber, chosen, variantWords};
-ghost use Rattle.host.specs.Sources.{lentWords};
-use crate::lent::count_of;
 use crate::lent::info_at;
-use crate::lent::word;
+use crate::lent::info_at_bytes;
 use crate::packing::abi_number;
 use crate::packing::inner_number;
 use types::CanonicalAbiInfo;
 use types::VariantInfo;
 use types::VariantState;
+use words::word_at;
 
-fn add_case(state: VariantState, words: &[u32], bytes: &[u8], at: usize) -> VariantState
-    requires { ⌜ at + 1 < 2 ^ 63 ⌝ }
-    ensures { λ r. ⌜ casesMeans r ≡ addCase (casesMeans state) (caseAt (lentWords (now (words .entry)) (now (bytes .entry))) at) ⌝ }
+fn add_case(state: VariantState, words: &[u32], at: usize) -> VariantState
+    requires { ⌜ at + 6 ≤ length (now words) ⌝ }
+    ensures { λ r. ⌜ casesMeans r ≡ addCase (casesMeans state) (caseAt (now (words .entry)) at) ⌝ }
 {
-    if word(words, bytes, at) == 0 {
+    if words[at] == 0 {
         state.bare()
     } else {
-        state.payload(info_at(words, bytes, at + 1))
+        state.payload(info_at(words, at + 1))
     }
 }
 
-fn cases_of(words: &[u32], bytes: &[u8]) -> VariantState
-    ensures { λ r. ⌜ casesMeans r ≡ addCases noCases (casesOf (lentWords (now (words .entry)) (now (bytes .entry)))) ⌝ }
+fn add_case_bytes(state: VariantState, bytes: &[u8], at: usize) -> VariantState
+    requires { ⌜ at + 6 ≤ length (now bytes) / 4 ⌝ }
+    ensures { λ r. ⌜ casesMeans r ≡ addCase (casesMeans state) (caseAt (wholeWords (now (bytes .entry))) at) ⌝ }
 {
-    let n = count_of(words, bytes) / 6;
+    if word_at(bytes, at) == 0 {
+        state.bare()
+    } else {
+        state.payload(info_at_bytes(bytes, at + 1))
+    }
+}
+
+fn cases_of(words: &[u32]) -> VariantState
+    ensures { λ r. ⌜ casesMeans r ≡ addCases noCases (casesOf (now (words .entry))) ⌝ }
+{
+    let n = words.len() / 6;
     let mut state = VariantState::start();
     let mut j: usize = 0;
     while j < n {
-        state = add_case(state, words, bytes, 6 * j);
+        state = add_case(state, words, 6 * j);
         j += 1;
     }
     state
 }
 
-// The first five numbers are the info's.
-fn variant_number(words: &[u32], bytes: &[u8], k: u32) -> u64
-    ensures { λ r. ⌜ r ≡ leafNumber (λ v. chosen k (variantWords v)) (variantAnswer (casesOf (lentWords (now (words .entry)) (now (bytes .entry))))) ⌝ }
+fn cases_of_bytes(bytes: &[u8]) -> VariantState
+    ensures { λ r. ⌜ casesMeans r ≡ addCases noCases (casesOf (wholeWords (now (bytes .entry)))) ⌝ }
 {
-    let cases = cases_of(words, bytes);
-    if k < 5 {
-        abi_number(CanonicalAbiInfo::variant(cases), k)
-    } else {
-        inner_number(VariantInfo::new(cases), k - 5)
+    let n = bytes.len() / 4 / 6;
+    let mut state = VariantState::start();
+    let mut j: usize = 0;
+    while j < n {
+        state = add_case_bytes(state, bytes, 6 * j);
+        j += 1;
     }
+    state
 }
 
+// Refuses BadRow if any info is bad, then BadCount for no case, then TooLarge in either memory.
 #[no_mangle]
 pub extern "C" fn lampughjata_variant(cases: &[u32], k: u32) -> u64
     ensures { λ r. ⌜ r ≡ leafNumber (λ v. chosen k (variantWords v)) (variantAnswer (casesOf (now (cases .entry)))) ⌝ }
 {
-    variant_number(cases, &[], k)
+    let state = cases_of(cases);
+    if k < 5 {
+        abi_number(CanonicalAbiInfo::variant(state), k)
+    } else {
+        inner_number(VariantInfo::new(state), k - 5)
+    }
 }
 
 #[no_mangle]
 pub extern "C" fn lampughjata_variant_bytes(cases: &[u8], k: u32) -> u64
     ensures { λ r. ⌜ r ≡ leafNumber (λ v. chosen k (variantWords v)) (variantAnswer (casesOf (wholeWords (now (cases .entry))))) ⌝ }
 {
-    variant_number(&[], cases, k)
+    let state = cases_of_bytes(cases);
+    if k < 5 {
+        abi_number(CanonicalAbiInfo::variant(state), k)
+    } else {
+        inner_number(VariantInfo::new(state), k - 5)
+    }
 }

@@ -1,4 +1,4 @@
-// Both memories: layouts, extents and their steps, each function as in one memory.
+// Does for both memories at once what extent.rt does in one: layouts, extents and their steps.
 ghost use mathlib.Core.Path.{_≡_};
 ghost use mathlib.Core.Bool.{_&&_};
 ghost use Prim.Native.Nat.{_*_};
@@ -28,14 +28,14 @@ pub struct Steps {
     pub extents: Extents,
 }
 
-// What closed extents have come to, where both memories can hold it.
+// Holds what closed extents have come to, where both memories can hold it.
 pub enum Fitted {
     Layouts(Layouts),
     TooLarge,
 }
 
 impl Layouts {
-    // Of nothing: it takes no room and is aligned anywhere.
+    // Nothing takes no room and is aligned anywhere.
     pub const EMPTY: Layouts = Layouts {
         in32: Layout { size: 0, align: 1 },
         in64: Layout { size: 0, align: 1 },
@@ -139,6 +139,7 @@ impl Extents {
         )
     }
 
+    // Refuses TooLarge for an end above 4294967295 in either memory.
     pub fn fitted(self) -> Fitted
         ensures { λ r. ⌜ fittedMeans r ≡ fittedOf (extentsMeans self) ⌝ }
     {

@@ -1,4 +1,4 @@
-// The discriminant of a variant: 1, 2 or 4 bytes by the number of its cases.
+// A variant's discriminant takes 1 byte for up to 256 cases, 2 up to 65,536, else 4, as 01 says.
 ghost use mathlib.Core.Path.{_≡_};
 ghost use Rattle.types.specs.Means.{bytesOf, discriminantMeans};
 ghost use Rattle.types.specs.Leaves.{discriminantAnswer};
@@ -16,6 +16,7 @@ pub enum DiscriminantAnswer {
 }
 
 impl DiscriminantSize {
+    // Refuses BadCount for no case.
     pub fn from_count(count: u32) -> DiscriminantAnswer
         ensures { λ r. ⌜ discriminantMeans r ≡ discriminantAnswer count ⌝ }
     {

@@ -1,4 +1,4 @@
-// One memory: members placed one after another, by where the last of them ends and the greatest alignment.
+// Places members one after another in one memory, by where the last of them ends and the greatest alignment.
 ghost use mathlib.Core.Path.{_≡_};
 ghost use Prim.Native.Nat.{_*_, min};
 ghost use Rattle.canon.specs.Placement.{fourGiB};
@@ -22,12 +22,13 @@ pub struct Extent {
     pub align: u32,
 }
 
-// Where a member starts, and the extent with it.
+// Tells where a member starts, and the extent with it.
 pub struct Step {
     pub start: u64,
     pub extent: Extent,
 }
 
+// This is one more than 01's greatest start, end or size.
 const FOUR_GIB: u64 = 4294967296;
 
 fn stopped(end: u64) -> u64
@@ -47,7 +48,7 @@ impl Layout {
         }
     }
 
-    // What is as large and as aligned as either: the room for a variant's payloads.
+    // Gives what is as large and as aligned as either: the room for a variant's payloads.
     pub(crate) fn widest(self, other: Layout) -> Layout
         ensures { λ r. ⌜ layoutMeans r ≡ widest (layoutMeans self) (layoutMeans other) ⌝ }
     {
@@ -57,7 +58,7 @@ impl Layout {
         }
     }
 
-    // `count` of them one after another.
+    // Puts `count` of them one after another.
     pub(crate) fn repeat(self, count: u32) -> Extent
         ensures { λ r. ⌜ r ≡ extentAt (self .size * count) (self .align) ⌝ }
     {
@@ -104,7 +105,7 @@ impl Extent {
         step.extent
     }
 
-    // A discriminant, and room for the payloads at the next place where the whole may be aligned.
+    // Places a discriminant, and room for the payloads at the next place where the whole may be aligned.
     pub(crate) fn variant(size: DiscriminantSize, payload: Layout) -> Step
         ensures { λ r. ⌜ r ≡ variantStep (bytesOf size) (layoutMeans payload) ⌝ }
     {

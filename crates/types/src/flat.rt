@@ -1,9 +1,10 @@
-// Flat counts: how many core types a type flattens to, or none.
+// A flat count says how many core types a type flattens to, or none.
 ghost use mathlib.Core.Path.{_≡_};
 ghost use Rattle.canon.specs.Flat.{capped, addFlat, maxFlat, timesFlat};
 ghost use Rattle.canon.specs.Row.{goodCount};
 ghost use Rattle.types.specs.Means.{countMeans};
 
+// 01: "a sum or product above 16 is none".
 pub const MAX_FLAT_TYPES: u32 = 16;
 
 pub enum FlatCount {
@@ -22,7 +23,7 @@ impl FlatCount {
     }
 }
 
-// A sum or a product: none above 16.
+// Caps a sum or a product.
 fn cap(n: u64) -> FlatCount
     ensures { λ r. ⌜ countMeans r ≡ capped n ⌝ }
 {
@@ -63,7 +64,7 @@ pub fn max_flat(a: FlatCount, b: FlatCount) -> FlatCount
     }
 }
 
-// The count of `times` elements.
+// Counts `times` elements.
 pub(crate) fn times_flat(a: FlatCount, times: u32) -> FlatCount
     ensures { λ r. ⌜ countMeans r ≡ timesFlat (countMeans a) times ⌝ }
 {

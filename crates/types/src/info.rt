@@ -1,4 +1,4 @@
-// What the canonical ABI says of a type, for both memories.
+// An info holds what the canonical ABI says of a type, for both memories.
 ghost use mathlib.Core.Path.{_≡_};
 ghost use Rattle.canon.specs.Layout.{mem32, mem64};
 ghost use Rattle.canon.specs.Row.{goodAbi};
@@ -18,7 +18,7 @@ use crate::flat::times_flat;
 use crate::memory::Memory;
 use crate::refusal::Refusal;
 
-// The most labels that flags may have.
+// Flags may have so many labels: 01 refuses "flags above 32".
 pub const MAX_FLAGS: u32 = 32;
 
 pub struct CanonicalAbiInfo {
@@ -34,14 +34,14 @@ pub enum InfoAnswer {
     Refused(Refusal),
 }
 
-// Where a field starts, and where the next may at the earliest.
+// Tells where a field starts, and where the next may at the earliest.
 pub enum NextField {
     At { offset: u32, end: u32 },
     Refused(Refusal),
 }
 
 impl CanonicalAbiInfo {
-    // Types of no size.
+    // Types of no size have this info.
     pub const ZERO: CanonicalAbiInfo = CanonicalAbiInfo {
         size32: 0,
         align32: 1,
@@ -50,7 +50,7 @@ impl CanonicalAbiInfo {
         flat_count: FlatCount::Count(0),
     };
 
-    // Scalars of one, two, four and eight bytes.
+    // Scalars take one, two, four or eight bytes, and are aligned to their size.
     pub const SCALAR1: CanonicalAbiInfo = CanonicalAbiInfo {
         size32: 1,
         align32: 1,
@@ -95,7 +95,7 @@ impl CanonicalAbiInfo {
         }
     }
 
-    // Lists and strings: a pointer and a length.
+    // Lists and strings are a pointer and a length, of four or of eight bytes each.
     pub const POINTER_PAIR: CanonicalAbiInfo = CanonicalAbiInfo {
         size32: 8,
         align32: 4,
@@ -131,7 +131,7 @@ impl CanonicalAbiInfo {
         }
     }
 
-    // Whether the five numbers keep the rules of a row.
+    // Tells whether the five numbers keep the rules of a row.
     pub fn is_good(self) -> bool
         ensures { λ r. ⌜ r ≡ goodAbi (abiMeans self) ⌝ }
     {
@@ -143,7 +143,7 @@ impl CanonicalAbiInfo {
         }
     }
 
-    // The info of what ends so in the two memories.
+    // Gives the info of what ends so in the two memories.
     pub(crate) fn fitted(extents: Extents, flat: FlatCount) -> InfoAnswer
         ensures { λ r. ⌜ infoAnswerMeans r ≡ fittedAbi (extentsMeans extents) (countMeans flat) ⌝ }
     {
@@ -153,6 +153,7 @@ impl CanonicalAbiInfo {
         }
     }
 
+    // Refuses BadRow for a bad info, then TooLarge for the size in either memory.
     pub fn fixed_length_list(self, count: u32) -> InfoAnswer
         ensures { λ r. ⌜ infoAnswerMeans r ≡ fixedAnswer (abiMeans self) count ⌝ }
     {
@@ -164,12 +165,14 @@ impl CanonicalAbiInfo {
         }
     }
 
+    // Refuses BadRow for a bad info, then TooLarge for the start or the end.
     pub fn next_field32(self, offset: u32) -> NextField
         ensures { λ r. ⌜ nextMeans r ≡ nextField mem32 (abiMeans self) offset ⌝ }
     {
         self.next_field(Memory::Memory32, offset)
     }
 
+    // Refuses as `next_field32` does.
     pub fn next_field64(self, offset: u32) -> NextField
         ensures { λ r. ⌜ nextMeans r ≡ nextField mem64 (abiMeans self) offset ⌝ }
     {
@@ -186,6 +189,7 @@ impl CanonicalAbiInfo {
         }
     }
 
+    // Refuses BadCount above 32 labels. 01 gives up to 8 of them one byte, up to 16 two, up to 32 four.
     pub fn flags(count: u32) -> InfoAnswer
         ensures { λ r. ⌜ infoAnswerMeans r ≡ flagsAnswer count ⌝ }
     {
@@ -204,6 +208,7 @@ impl CanonicalAbiInfo {
         InfoAnswer::Info(CanonicalAbiInfo::SCALAR4)
     }
 
+    // Refuses BadCount for no case.
     pub fn enum_(cases: u32) -> InfoAnswer
         ensures { λ r. ⌜ infoAnswerMeans r ≡ enumAnswer cases ⌝ }
     {
@@ -216,7 +221,7 @@ impl CanonicalAbiInfo {
     }
 }
 
-// A field after an end, in one memory.
+// Places a field after an end, in one memory.
 fn field_after(end: u32, field: Layout) -> NextField
     requires { ⌜ Alignment (field .align) ⌝ }
     ensures { λ r. ⌜ nextMeans r ≡ fieldAfter end (layoutMeans field) ⌝ }

@@ -1,4 +1,4 @@
-// The leaves of layout: refusals, rounding, flat counts, the step in one memory and in both, and the info of a type.
+// The leaves of layout are here: refusals, rounding, flat counts, the step in one memory and in both, and the info of a type.
 mod both;
 mod discriminant;
 mod extent;

@@ -1,4 +1,4 @@
-// The two memories, by the width of their pointers.
+// The two memories differ in the width of their pointers.
 pub enum Memory {
     Memory32,
     Memory64,

@@ -1,4 +1,4 @@
-// A record, one field's info after another. The state remembers a bad info and a field too far out, and `record` tells the first of these refusals.
+// Makes a record, one field's info after another. The state remembers a bad info and a field too far out, and `record` tells the first of these refusals.
 ghost use mathlib.Core.Path.{_≡_};
 ghost use mathlib.Core.List.{map};
 ghost use Rattle.types.specs.Leaves.{recordAnswer};
@@ -45,6 +45,7 @@ impl RecordState {
 }
 
 impl CanonicalAbiInfo {
+    // Refuses BadRow if any info was bad, then TooLarge in either memory.
     pub fn record(fields: RecordState) -> InfoAnswer
         ensures { λ r. ⌜ infoAnswerMeans r ≡ closeFields (recordMeans fields) ⌝ }
     {
@@ -56,7 +57,7 @@ impl CanonicalAbiInfo {
         CanonicalAbiInfo::fitted(extents.close(), flat)
     }
 
-    // The same over infos that are lent.
+    // Does the same over infos that are lent, and refuses as `record` does.
     pub fn record_static(fields: &[CanonicalAbiInfo]) -> InfoAnswer
         ensures { λ r. ⌜ infoAnswerMeans r ≡ recordAnswer (map abiMeans (now (fields .entry))) ⌝ }
     {

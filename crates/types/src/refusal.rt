@@ -1,4 +1,4 @@
-// Why a call refuses, in the order of the numbers.
+// Says why a call refuses; the numbers are those of 01's table, and stand in its order.
 ghost use mathlib.Core.Path.{_≡_};
 ghost use Rattle.types.specs.Means.{numberOf};
 

@@ -1,4 +1,4 @@
-// Rounding up to an alignment, and the greater of two numbers.
+// Rounds up to an alignment, and takes the greater of two numbers.
 ghost use mathlib.Core.Path.{_≡_};
 ghost use Prim.Native.Nat.{_≤_, max};
 ghost use Rattle.canon.specs.Placement.{fourGiB};
@@ -8,7 +8,7 @@ ghost use Rattle.types.specs.Leaves.{alignTo};
 ghost use Rattle.types.specs.Extents.{rounded, lowBits};
 use crate::Refusal;
 
-// The greatest start, end or size.
+// No start, end or size may be above this, as 01 says of refusal 6.
 pub(crate) const LARGEST: u64 = 4294967295;
 
 pub enum Rounded {
@@ -16,7 +16,7 @@ pub enum Rounded {
     Refused(Refusal),
 }
 
-// Each alignment is a bit of one number, so that nothing branches on which one it is.
+// The alignments 1, 2, 4 and 8 are the bits of 0x116, so that nothing branches on which one it is.
 pub(crate) fn is_alignment(a: u32) -> bool
     ensures { λ r. ⌜ r ≡ isAlignment a ⌝ }
 {
@@ -27,14 +27,15 @@ pub(crate) fn is_alignment(a: u32) -> bool
     }
 }
 
-// The bits that rounding to an alignment clears; of any other number seven at most, and nothing branches on which it is.
+// Gives the bits that rounding to an alignment clears: 7 at most, since 8 is the greatest. So it is for every other number, and nothing branches on
+// which it is.
 fn low_bits(a: u32) -> u64
     ensures { λ r. ⌜ r ≡ lowBits a ⌝ }
 {
     (a as u64 + 7) % 8
 }
 
-// The mask of the Rust, in 64 bits, where the sum cannot wrap.
+// Masks as the Rust does, in 64 bits, where the sum cannot wrap.
 pub(crate) fn round_up(a: u64, b: u32) -> u64
     requires { ⌜ a ≤ fourGiB ⌝ }
     ensures { λ r. ⌜ r ≡ rounded a b ⌝ }
@@ -44,6 +45,7 @@ pub(crate) fn round_up(a: u64, b: u32) -> u64
     sum - (sum & low)
 }
 
+// Refuses BadRow for what is no alignment, then TooLarge for the rounded number.
 pub fn align_to(a: u32, b: u32) -> Rounded
     ensures { λ r. ⌜ roundedMeans r ≡ alignTo a b ⌝ }
 {

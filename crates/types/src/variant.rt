@@ -1,4 +1,4 @@
-// A variant, one case after another. The state counts its cases and remembers a bad info, and `VariantInfo::new` tells the first refusal.
+// Makes a variant, one case after another. The state counts its cases and remembers a bad info, and `VariantInfo::new` tells the first refusal.
 ghost use mathlib.Core.Path.{_≡_};
 ghost use mathlib.Core.Option.{none, some};
 ghost use Rattle.types.specs.Leaves.{infoAlone};
@@ -16,7 +16,7 @@ use crate::info::CanonicalAbiInfo;
 use crate::info::InfoAnswer;
 use crate::refusal::Refusal;
 
-// The first number of cases whose discriminant takes four bytes; a count above it tells nothing more.
+// This is the first number of cases whose discriminant takes four bytes; a count above it tells nothing more.
 const ENOUGH: u32 = 65537;
 
 pub struct VariantState {
@@ -55,7 +55,7 @@ impl VariantState {
         }
     }
 
-    // A case without a payload.
+    // Adds a case without a payload.
     pub fn bare(self) -> VariantState
         ensures { λ r. ⌜ casesMeans r ≡ addCase (casesMeans self) none ⌝ }
     {
@@ -69,7 +69,7 @@ impl VariantState {
         }
     }
 
-    // A case that holds what the info is of.
+    // Adds a case that holds what the info is of.
     pub fn payload(self, info: CanonicalAbiInfo) -> VariantState
         ensures { λ r. ⌜ casesMeans r ≡ addCase (casesMeans self) (some (abiMeans info)) ⌝ }
     {
@@ -86,6 +86,7 @@ impl VariantState {
 }
 
 impl VariantInfo {
+    // Refuses BadRow if any info was bad, then BadCount for no case, then TooLarge in either memory.
     pub fn new(cases: VariantState) -> VariantAnswer
         ensures { λ r. ⌜ variantMeans r ≡ closeCases (casesMeans cases) ⌝ }
     {
@@ -98,7 +99,7 @@ impl VariantInfo {
         }
     }
 
-    // The variant whose discriminant has this size.
+    // Makes the variant whose discriminant has this size.
     fn sized(size: DiscriminantSize, cases: VariantState) -> VariantAnswer
         ensures { λ r. ⌜ variantMeans r ≡ sizedCases (bytesOf size) (casesMeans cases) ⌝ }
     {
@@ -113,6 +114,7 @@ impl VariantInfo {
                     payload_offset32: steps.start32 as u32,
                     payload_offset64: steps.start64 as u32,
                 };
+                // The discriminant is one core type more.
                 let count = add_flat(FlatCount::Count(1), flat);
                 VariantAnswer::Variant(variant, CanonicalAbiInfo::of(whole, count))
             }
@@ -122,6 +124,7 @@ impl VariantInfo {
 }
 
 impl CanonicalAbiInfo {
+    // Refuses as `VariantInfo::new` does.
     pub fn variant(cases: VariantState) -> InfoAnswer
         ensures { λ r. ⌜ infoAnswerMeans r ≡ infoAlone (closeCases (casesMeans cases)) ⌝ }
     {

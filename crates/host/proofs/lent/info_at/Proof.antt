@@ -3,60 +3,72 @@ use borrow.Author.Needs.{needs}
 use Rattle.host.proofs.lent.info_at.Statement.{statement}
 use Rattle.host.proofs.lent.info_at.Tie as tie
 
-word-requires : tie.Need-word-requires
-word-requires c κs = search needs
+mul-abi-at : tie.Need-mul-abi-at
+mul-abi-at c = search needs
 
-add-word : tie.Need-add-word
-add-word c = search needs
+shared-slice-read-abi-at : tie.Need-shared-slice-read-abi-at
+shared-slice-read-abi-at c = search needs
 
-word-requires-2 : tie.Need-word-requires-2
-word-requires-2 c κs = search needs
+add-abi-at : tie.Need-add-abi-at
+add-abi-at c = search needs
 
-add-word-2 : tie.Need-add-word-2
-add-word-2 c = search needs
+mul-abi-at-2 : tie.Need-mul-abi-at-2
+mul-abi-at-2 c = search needs
 
-word-requires-3 : tie.Need-word-requires-3
-word-requires-3 c κs = search needs
+shared-slice-read-abi-at-2 : tie.Need-shared-slice-read-abi-at-2
+shared-slice-read-abi-at-2 c = search needs
 
-add-word-3 : tie.Need-add-word-3
-add-word-3 c = search needs
+add-abi-at-2 : tie.Need-add-abi-at-2
+add-abi-at-2 c = search needs
 
-word-requires-4 : tie.Need-word-requires-4
-word-requires-4 c κs = search needs
+mul-abi-at-3 : tie.Need-mul-abi-at-3
+mul-abi-at-3 c = search needs
 
-add-word-4 : tie.Need-add-word-4
-add-word-4 c = search needs
+shared-slice-read-abi-at-3 : tie.Need-shared-slice-read-abi-at-3
+shared-slice-read-abi-at-3 c = search needs
 
-word-requires-5 : tie.Need-word-requires-5
-word-requires-5 c κs = search needs
+add-abi-at-3 : tie.Need-add-abi-at-3
+add-abi-at-3 c = search needs
+
+mul-abi-at-4 : tie.Need-mul-abi-at-4
+mul-abi-at-4 c = search needs
+
+shared-slice-read-abi-at-4 : tie.Need-shared-slice-read-abi-at-4
+shared-slice-read-abi-at-4 c = search needs
+
+add-abi-at-4 : tie.Need-add-abi-at-4
+add-abi-at-4 c = search needs
+
+mul-abi-at-5 : tie.Need-mul-abi-at-5
+mul-abi-at-5 c = search needs
+
+shared-slice-read-abi-at-5 : tie.Need-shared-slice-read-abi-at-5
+shared-slice-read-abi-at-5 c = search needs
 
 abi-at-requires : tie.Need-abi-at-requires
 abi-at-requires c κs = search needs
 
 returns : tie.Need-returns
 unfolding infoAt
-returns c =
-    simp (
-      c .abi-at .ensures,
-      c .before .word5 .ensures,
-      c .before .before .word4 .ensures,
-      c .before .before .before .word3 .ensures,
-      c .before .before .before .before .word2 .ensures,
-      c .before .before .before .before .before .word .ensures,
-    )
+returns c = c .abi-at .ensures
 
 pub info-at-spec : {M : Type 1} → statement M
 info-at-spec =
     tie.close
     (tie.spec
-    word-requires
-    add-word
-    word-requires-2
-    add-word-2
-    word-requires-3
-    add-word-3
-    word-requires-4
-    add-word-4
-    word-requires-5
+    mul-abi-at
+    shared-slice-read-abi-at
+    add-abi-at
+    mul-abi-at-2
+    shared-slice-read-abi-at-2
+    add-abi-at-2
+    mul-abi-at-3
+    shared-slice-read-abi-at-3
+    add-abi-at-3
+    mul-abi-at-4
+    shared-slice-read-abi-at-4
+    add-abi-at-4
+    mul-abi-at-5
+    shared-slice-read-abi-at-5
     abi-at-requires
     returns)

@@ -7,19 +7,18 @@ use denote.Ref.{now}
 use Rattle.canon.specs.Row.{Abi}
 use Rattle.types.specs.States.{recordMeans, noFields, addFields}
 use Rattle.host.specs.Infos.{infoAt, several}
-use Rattle.host.specs.Sources.{lentWords}
 use Rattle.host.proofs.Several.{one-more, no-more}
 use Rattle.host.proofs.records.fields_of.Statement.{statement}
 use Rattle.host.proofs.records.fields_of.Tie as tie
 
-abbrev item : List ℕ → List ℕ → ℕ → Abi
-item words bytes i = infoAt (lentWords words bytes) (5 * i)
+abbrev item : List ℕ → ℕ → Abi
+item words i = infoAt words (5 * i)
 
 abbrev Inv-loop : tie.InvT-loop
-Inv-loop words bytes n state₀ j₀ state j = (j ≤ n) × (addFields (recordMeans state) (several (item words bytes) j (n - j)) ≡ addFields noFields (several (item words bytes) 0 n))
+Inv-loop words n state₀ j₀ state j = (j ≤ n) × (addFields (recordMeans state) (several (item words) j (n - j)) ≡ addFields noFields (several (item words) 0 n))
 
 abbrev μ-loop : tie.MeasureT-loop
-μ-loop words bytes n state₀ j₀ state j = n - j
+μ-loop words n state₀ j₀ state j = n - j
 
 start-requires : tie.Need-start-requires Inv-loop μ-loop
 start-requires c κs = search needs
@@ -45,16 +44,16 @@ loop-less c = search needs
 loop-again : tie.Need-loop-again Inv-loop μ-loop
 unfolding addFields
 loop-again c =
-    let a = c .before .before .before .before .before .before .before .args in
+    let a = c .before .before .before .before .before .before .args in
     let l = c .before .before .before .loop in
-    (search needs, rw (c .field .ensures, c .before .info-at .ensures) (one-more (item (now (a .words)) (now (a .bytes))) (l .j) (a .n) addFields (recordMeans (l .state)) _ refl (search needs) ∙ l .inv .1))
+    (search needs, rw (c .field .ensures, c .before .info-at .ensures) (one-more (item (now (a .words))) (l .j) (a .n) addFields (recordMeans (l .state)) _ refl (search needs) ∙ l .inv .1))
 
 returns : tie.Need-returns Inv-loop μ-loop
 unfolding addFields
 returns c =
-    let a = c .before .before .before .before .before .args in
+    let a = c .before .before .before .before .args in
     let l = c .before .loop in
-    ap (addFields (recordMeans (l .state))) (sym (no-more (item (now (a .words)) (now (a .bytes))) (l .j) (a .n) (c .loop-test .left))) ∙ l .inv .1
+    ap (addFields (recordMeans (l .state))) (sym (no-more (item (now (a .words))) (l .j) (a .n) (c .loop-test .left))) ∙ l .inv .1
 
 pub fields-of-spec : {M : Type 1} → statement M
 fields-of-spec =

@@ -6,9 +6,6 @@ use borrow.Author.Needs.{needs}
 use Rattle.host.proofs.records.record_of.Statement.{statement}
 use Rattle.host.proofs.records.record_of.Tie as tie
 
-count-of-requires : tie.Need-count-of-requires
-count-of-requires c κs = search needs
-
 short-infos-requires : tie.Need-short-infos-requires
 short-infos-requires c κs = search needs
 
@@ -22,16 +19,15 @@ record-requires : tie.Need-record-requires
 record-requires c κs = search needs
 
 returns : tie.Need-returns
-returns c = c .lent-record .ensures ∙ ap recordAnswer (c .before .short-infos .ensures ∙ rw (c .before .before .before .count-of .ensures .0))
+returns c = c .lent-record .ensures ∙ ap recordAnswer (c .before .short-infos .ensures)
 
 returns-2 : tie.Need-returns-2
-returns-2 c = c .record .ensures ∙ ap closeFields (c .before .fields-of .ensures ∙ rw (c .before .before .before .count-of .ensures .0)) ∙ record-answer _
+returns-2 c = c .record .ensures ∙ ap closeFields (c .before .fields-of .ensures) ∙ record-answer _
 
 pub record-of-spec : {M : Type 1} → statement M
 record-of-spec =
     tie.close
     (tie.spec
-    count-of-requires
     short-infos-requires
     lent-record-requires
     fields-of-requires

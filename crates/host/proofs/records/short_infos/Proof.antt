@@ -6,16 +6,15 @@ use native.Mathlib.Omega.{arith}
 use lib.ListN.{length, take}
 use Rattle.types.specs.Means.{abiMeans}
 use Rattle.host.specs.Infos.{infoAt, several}
-use Rattle.host.specs.Sources.{lentWords}
 use Rattle.host.proofs.Several.{filled-more}
 use Rattle.host.proofs.records.short_infos.Statement.{statement}
 use Rattle.host.proofs.records.short_infos.Tie as tie
 
 abbrev Inv-loop : tie.InvT-loop
-Inv-loop words bytes n infos₀ j₀ infos j = (j ≤ n) × (length infos ≡ 8) × (map abiMeans (take j infos) ≡ several (λ i. infoAt (lentWords words bytes) (5 * i)) 0 j)
+Inv-loop words n infos₀ j₀ infos j = (j ≤ n) × (length infos ≡ 4) × (map abiMeans (take j infos) ≡ several (λ i. infoAt words (5 * i)) 0 j)
 
 abbrev μ-loop : tie.MeasureT-loop
-μ-loop words bytes n infos₀ j₀ infos j = n - j
+μ-loop words n infos₀ j₀ infos j = n - j
 
 loop-holds : tie.Need-loop-holds Inv-loop μ-loop
 unfolding several
@@ -47,7 +46,7 @@ loop-again c =
 returns : tie.Need-returns Inv-loop μ-loop
 returns c =
     let l = c .before .loop in
-    let e : l .j ≡ c .before .before .before .before .args .n = omega (arith, l .inv .0, c .loop-test .left) in
+    let e : l .j ≡ c .before .before .before .args .n = omega (arith, l .inv .0, c .loop-test .left) in
     rw (← e) (l .inv .2)
 
 pub short-infos-spec : {M : Type 1} → statement M

@@ -4,8 +4,11 @@ use borrow.Author.Needs.{needs}
 use Rattle.host.proofs.variants.add_case.Statement.{statement}
 use Rattle.host.proofs.variants.add_case.Tie as tie
 
-word-requires : tie.Need-word-requires
-word-requires c κs = search needs
+mul-if1 : tie.Need-mul-if1
+mul-if1 c = search needs
+
+shared-slice-read-if1 : tie.Need-shared-slice-read-if1
+shared-slice-read-if1 c = search needs
 
 bare-requires : tie.Need-bare-requires
 bare-requires c κs = search needs
@@ -21,17 +24,18 @@ payload-requires c κs = search needs
 
 returns : tie.Need-returns
 unfolding caseAt
-returns c = simp (c .bare .ensures, ← c .before .before .word .ensures, eq-eqb _ _ (c .before .if1 .taken))
+returns c = simp (c .bare .ensures, eq-eqb _ _ (c .before .if1 .taken))
 
 returns-2 : tie.Need-returns-2
 unfolding caseAt
-returns-2 c = simp (c .payload .ensures, c .before .info-at .ensures, ← c .before .before .before .word .ensures, ne-eqb _ _ (c .before .before .if1 .left))
+returns-2 c = simp (c .payload .ensures, c .before .info-at .ensures, ne-eqb _ _ (c .before .before .if1 .left))
 
 pub add-case-spec : {M : Type 1} → statement M
 add-case-spec =
     tie.close
     (tie.spec
-    word-requires
+    mul-if1
+    shared-slice-read-if1
     bare-requires
     add-info-at
     info-at-requires

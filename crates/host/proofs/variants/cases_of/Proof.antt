@@ -4,32 +4,29 @@ use mathlib.Core.Path.{_≡_, refl, sym, ap, _∙_}
 use mathlib.Core.List.{List}
 use mathlib.Core.Option.{Option}
 use Prim.Native.Nat.{ℕ, _-_, _*_, _/_, _≤_}
+use lib.ListN.{length}
 use denote.Ref.{now}
 use Rattle.canon.specs.Row.{Abi}
 use Rattle.types.specs.States.{casesMeans, noCases, addCases}
-use Rattle.host.specs.Infos.{caseAt, several}
-use Rattle.host.specs.Sources.{lentWords}
+use Rattle.host.specs.Infos.{caseAt, several, casesOf}
 use Rattle.host.proofs.Several.{one-more, no-more}
 use Rattle.host.proofs.variants.cases_of.Statement.{statement}
 use Rattle.host.proofs.variants.cases_of.Tie as tie
 
-abbrev item : List ℕ → List ℕ → ℕ → Option Abi
-item words bytes i = caseAt (lentWords words bytes) (6 * i)
+abbrev item : List ℕ → ℕ → Option Abi
+item words i = caseAt words (6 * i)
 
 abbrev Inv-loop : tie.InvT-loop
-Inv-loop words bytes n state₀ j₀ state j = (j ≤ n) × (addCases (casesMeans state) (several (item words bytes) j (n - j)) ≡ addCases noCases (several (item words bytes) 0 n))
+Inv-loop words n state₀ j₀ state j = (j ≤ n) × (n ≡ length words / 6) × (addCases (casesMeans state) (several (item words) j (n - j)) ≡ addCases noCases (casesOf words))
 
 abbrev μ-loop : tie.MeasureT-loop
-μ-loop words bytes n state₀ j₀ state j = n - j
-
-count-of-requires : tie.Need-count-of-requires Inv-loop μ-loop
-count-of-requires c κs = search needs
+μ-loop words n state₀ j₀ state j = n - j
 
 start-requires : tie.Need-start-requires Inv-loop μ-loop
 start-requires c κs = search needs
 
 loop-holds : tie.Need-loop-holds Inv-loop μ-loop
-loop-holds c = (search needs, rw (c .start .ensures, sub-zero))
+loop-holds c = (search needs, refl, rw (c .start .ensures, sub-zero))
 
 mul-add-case : tie.Need-mul-add-case Inv-loop μ-loop
 mul-add-case c = search needs
@@ -46,20 +43,16 @@ loop-less c = search needs
 loop-again : tie.Need-loop-again Inv-loop μ-loop
 unfolding addCases
 loop-again c =
-    let a = c .before .before .before .before .before .before .before .args in
-    let n = c .before .before .before .before .count-of .result / 6 in
+    let a = c .before .before .before .before .before .args in
     let l = c .before .before .loop in
-    (search needs, rw (c .add-case .ensures) (one-more (item (now (a .words)) (now (a .bytes))) (l .j) n addCases (casesMeans (l .state)) _ refl (search needs) ∙ l .inv .1))
+    (search needs, refl, rw (c .add-case .ensures) (one-more (item (now (a .words))) (l .j) (length (now (a .words)) / 6) addCases (casesMeans (l .state)) _ refl (search needs) ∙ l .inv .2))
 
 returns : tie.Need-returns Inv-loop μ-loop
 unfolding addCases
 returns c =
-    let a = c .before .before .before .before .before .before .args in
-    let count = c .before .before .before .count-of in
+    let a = c .before .before .before .before .args in
     let l = c .before .loop in
-    ap (addCases (casesMeans (l .state))) (sym (no-more (item (now (a .words)) (now (a .bytes))) (l .j) (count .result / 6) (c .loop-test .left)))
-    ∙ l .inv .1
-    ∙ rw (count .ensures .0)
+    ap (addCases (casesMeans (l .state))) (sym (no-more (item (now (a .words))) (l .j) (length (now (a .words)) / 6) (c .loop-test .left))) ∙ l .inv .2
 
 pub cases-of-spec : {M : Type 1} → statement M
 cases-of-spec =
@@ -67,7 +60,6 @@ cases-of-spec =
     (tie.spec
     Inv-loop
     μ-loop
-    count-of-requires
     start-requires
     loop-holds
     mul-add-case
