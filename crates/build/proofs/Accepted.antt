@@ -1,14 +1,14 @@
 -- What a build accepts: every type of it fits both memories, its row stands at its index, and a record's or tuple's layout is the tightest.
 use mathlib.Core.Path.{_≡_, refl, sym, _∙_}
 use mathlib.Core.Bool.{Bool, true, false, cond, _||_}
-use mathlib.Core.List.{List, [], _∷_, _++_, map}
+use mathlib.Core.List.{List, [], _∷_, map}
 use mathlib.Core.Option.{Option, none, some}
 use Prim.Native.Nat.{ℕ, zero, suc, _<_}
 use native.Mathlib.Omega.{arith}
 use lib.Dec.{ltb}
 use lib.ListN.{length, getD, take, getElem?, length-map}
 use borrow.Author.Tests.{ltb-false}
-use Rattle.canon.specs.Answer.{Leaf, is, no as refuses, tooLarge}
+use Rattle.canon.specs.Answer.{is, tooLarge}
 use Rattle.canon.specs.Types.{Ty, recordOf, tupleOf, Members, Kind}
 use Rattle.canon.specs.Layout.{Memory, mem32, mem64, within, largestNumber, starts, recordSize, recordLayout, layout, members}
 use Rattle.canon.specs.Placement.{Every}
@@ -20,7 +20,7 @@ use Rattle.canon.proofs.Alignments.{members-aligned}
 use Rattle.canon.proofs.Tightest.{greatestAlign-least, ours, tightest}
 use Rattle.canon.proofs.Sizes.{tooLarge-size}
 use Rattle.canon.proofs.Cells.{room-fits, length-putRows, row-at}
-use Rattle.canon.proofs.Built.{build-keeps, built-sound, every-sixteen}
+use Rattle.canon.proofs.Built.{build-keeps, built-sound, every-sixteen, passed-test, every-snoc}
 use Rattle.canon.proofs.Refusals.{Product, aRecord, aTuple, Tightest}
 
 -- Every accepted type fits
@@ -28,15 +28,11 @@ use Rattle.canon.proofs.Refusals.{Product, aRecord, aTuple, Tightest}
 abbrev Fits : Ty → Type 0
 Fits t = isTooLarge mem32 t || isTooLarge mem64 t ≡ false
 
-passed : (b : Bool) (x : ℕ) (l : Leaf Defined) (d : Defined) → cond b (refuses x) l ≡ is d → (b ≡ false) × (l ≡ is d)
-passed true x l d e = absurd (impossible (cc))
-passed false x l d e = (refl, e)
-
 checked-fits : (n : ℕ) (o : Option Ty) (d : Defined) → checked n o ≡ is d → Fits (d .type)
 unfolding checked
 checked-fits n none d e = impossible (cc)
 checked-fits n (some t) d e =
-    let p = passed (isTooLarge mem32 t || isTooLarge mem64 t) tooLarge _ d e in
+    let p = passed-test (isTooLarge mem32 t || isTooLarge mem64 t) tooLarge _ d e in
     let q : record { type = t; length = n } ≡ d = cc in
     rw (← q) (p .0)
 
@@ -45,11 +41,7 @@ unfolding bodied
 define-fits ts none ws d e = impossible (cc)
 define-fits ts (some k) ws d e =
     checked-fits (bodyLength (shapeOf k) (getD ws 0 0)) (typeOf ts k (take (bodyLength (shapeOf k) (getD ws 0 0)) ws)) d
-    (passed (isBadCount k (getD ws 0 0)) _ _ d (passed (ltb (length ws) (bodyLength (shapeOf k) (getD ws 0 0))) _ _ d e .1) .1)
-
-every-snoc : (ts : List Ty) (t : Ty) → Every Fits ts → Fits t → Every Fits (ts ++ t ∷ [])
-every-snoc [] t v d = (d, tt)
-every-snoc (u ∷ ts) t v d = (v .0, every-snoc ts t (v .1) d)
+    (passed-test (isBadCount k (getD ws 0 0)) _ _ d (passed-test (ltb (length ws) (bodyLength (shapeOf k) (getD ws 0 0))) _ _ d e .1) .1)
 
 all-fit : (ws t : List ℕ) → Every Fits (built ws t .types)
 unfolding build
@@ -58,7 +50,7 @@ all-fit ws t = go (ltb mostWords (length ws))
     go : (b : Bool) → Every Fits (cond b (record { types = []; stopped = some 1 }) (buildFrom (capacity (length t)) [] ws) .types)
     go true = tt
     go false =
-        build-keeps (λ room ts. Every Fits ts) (λ room ts w vs d e h. every-snoc ts (d .type) h (define-fits ts (kindOf w) vs d e))
+        build-keeps (λ room ts. Every Fits ts) (λ room ts w vs d e h. every-snoc Fits ts (d .type) h (define-fits ts (kindOf w) vs d e))
         (capacity (length t)) [] ws tt .1
 
 -- Its row

@@ -28,7 +28,7 @@ use Rattle.canon.proofs.Tests.{impossible}
 use Rattle.canon.proofs.Built.{typeInfo}
 use Rattle.types.specs.Leaves.{given, flagsAnswer}
 use Rattle.canon.proofs.Refusals.{Product, aRecord, aTuple}
-use Rattle.build.specs.Steps.{foldRefs, noMembers, addMember, membersRow, noPayloads, addCase, payloadsRow}
+use Rattle.build.specs.Steps.{foldRefs, noMembers, addMember, membersRow, noPayloads, addIfPayload, payloadsRow}
 use Rattle.canon.specs.Description.{counted, fixed, shapeOf, bodyLength}
 use Rattle.head.specs.Heads.{before, many, between}
 use Rattle.head.proofs.Laws.{between-length, shape-references}
@@ -89,23 +89,23 @@ module _ (ts : List Ty) where
   variant ws n =
       judged (eqb (length ws) 0)
       (λ h. rw (discriminant-none (length ws) h))
-      (λ h. rw (discriminant-is (length ws) h) (fold-cases ts (payloadsRow 2 (discriminant (length ws))) addCase ws noPayloads ∙ go (casesOf ts ws) refl))
+      (λ h. rw (discriminant-is (length ws) h) (fold-cases ts (payloadsRow 2 (discriminant (length ws))) addIfPayload ws noPayloads ∙ go (casesOf ts ws) refl))
     where
-      go : (o : Option Cases) → casesOf ts ws ≡ o → orBad o (λ cs. payloadsRow 2 (discriminant (length ws)) (foldCases addCase noPayloads cs)) ≡ rowLeaf (checked n (lift variantOf o))
+      go : (o : Option Cases) → casesOf ts ws ≡ o → orBad o (λ cs. payloadsRow 2 (discriminant (length ws)) (foldCases addIfPayload noPayloads cs)) ≡ rowLeaf (checked n (lift variantOf o))
       go none e = refl
       go (some cs) e = rw (← (count-cases ws cs e)) (cased-row (variant-cased cs) n)
 
   option : (w n : ℕ) → andThen (typeInfo ts w) optionRow ≡ rowLeaf (checked n (lift optionOf (reference ts w)))
-  unfolding optionRow addCase
+  unfolding optionRow addIfPayload
   option w n = one-look ts w optionRow ∙ made optionOf (reference ts w) _ n (λ t. cased-row (option-cased t) n)
 
   result : (v w n : ℕ) →
       variantRow 9 (typeInfo ts) (v ∷ w ∷ []) ≡ rowLeaf (checked n (lift2 resultOf (caseOf ts v) (caseOf ts w)))
   unfolding variantRow andThen casesOf checked
   result v w n =
-      rw (discriminant-is 2 refl) (fold-cases ts (payloadsRow 9 1) addCase (v ∷ w ∷ []) noPayloads ∙ go (caseOf ts v) (caseOf ts w))
+      rw (discriminant-is 2 refl) (fold-cases ts (payloadsRow 9 1) addIfPayload (v ∷ w ∷ []) noPayloads ∙ go (caseOf ts v) (caseOf ts w))
     where
-      go : (o q : Option Case) → orBad (lift2 _▸_ o (lift2 _▸_ q (some ∎))) (λ cs. payloadsRow 9 1 (foldCases addCase noPayloads cs)) ≡ rowLeaf (checked n (lift2 resultOf o q))
+      go : (o q : Option Case) → orBad (lift2 _▸_ o (lift2 _▸_ q (some ∎))) (λ cs. payloadsRow 9 1 (foldCases addIfPayload noPayloads cs)) ≡ rowLeaf (checked n (lift2 resultOf o q))
       go none q = refl
       go (some ok) none = refl
       go (some ok) (some err) = cased-row (result-cased ok err) n

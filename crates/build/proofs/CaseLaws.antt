@@ -22,19 +22,19 @@ use Rattle.types.proofs.VariantLaws.{widestOf, widest-greatest, variant-reach}
 use Rattle.flat_types.specs.Places.{joined}
 use Rattle.flat_types.proofs.Rows.{steps, allBoth}
 use Rattle.flat_types.proofs.Trees.{variant-type}
-use Rattle.build.specs.Steps.{pairOf, inEach, fitRow, PayloadsIs, noPayloads, addPayload, addCase, payloadsRow}
+use Rattle.build.specs.Steps.{pairOf, inEach, fitRow, PayloadsIs, noPayloads, addPayload, addIfPayload, payloadsRow}
 use Rattle.build.proofs.FitLaws.{rowLeaf, type-counted, type-words, row-words, fit-row}
 use Rattle.build.proofs.FoldLaws.{foldCases}
 use Rattle.build.proofs.Wording.{fit-same}
 
 after : (s : PayloadsIs) (cs : Cases) →
-    foldCases addCase s cs
+    foldCases addIfPayload s cs
     ≡ record {
       layouts = both (λ m. widestOf (within m (s .layouts)) (payloads m cs));
       flat = steps joined (s .flat) (allBoth (payloadCounts cs) (payloadFlats mem32 cs) (payloadFlats mem64 cs));
       reach = joinReach (s .reach) (caseReach cs);
     }
-unfolding addCase addPayload widestOf payloads payloadCounts payloadFlats caseReach
+unfolding addIfPayload addPayload widestOf payloads payloadCounts payloadFlats caseReach
 after s ∎ = rw (join-noReach (s .reach))
 after s (bare ▸ cs) = after s cs ∙ rw (noReach-join (caseReach cs))
 after s (holding t ▸ cs) =
@@ -43,7 +43,7 @@ after s (holding t ▸ cs) =
 
 -- after the discriminant of n cases
 closed : (kind n : ℕ) (cs : Cases) →
-    payloadsRow kind (discriminant n) (foldCases addCase noPayloads cs)
+    payloadsRow kind (discriminant n) (foldCases addIfPayload noPayloads cs)
     ≡ fitRow (both (λ m. extentAt (variantSize n (payloads m cs)) (variantAlign n (payloads m cs))))
     (λ ls. rowWords kind ls (both (λ m. typeFlat m (variantOf cs))) (both (λ m. casesInner n (payloads m cs))) (caseReach cs))
 unfolding payloadsRow pack
@@ -95,7 +95,7 @@ result-cased ok err =
     }
 
 pub cased-row : {t : Ty} {n : ℕ} {cs : Cases} → Cased t n cs → (len : ℕ) →
-    payloadsRow (rowKind t) (discriminant n) (foldCases addCase noPayloads cs) ≡ rowLeaf (checked len (some t))
+    payloadsRow (rowKind t) (discriminant n) (foldCases addIfPayload noPayloads cs) ≡ rowLeaf (checked len (some t))
 cased-row {t} {n} {cs} c len =
     closed (rowKind t) n cs
     ∙ fit-row t (λ m. variantLayout n (payloads m cs)) _ len (λ m. ap (layout m) (c .whole) ∙ c .layouts m) (λ h. words ∙ row-words t)

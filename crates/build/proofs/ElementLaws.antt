@@ -14,7 +14,7 @@ use Rattle.canon.specs.Layout.{roundUp}
 use Rattle.canon.specs.Flat.{copies, flatten, flatCount}
 use Rattle.canon.specs.Pack.{Packed, pack}
 use Rattle.canon.specs.Description.{checked}
-use Rattle.canon.specs.Row.{noInner, Info, infoOf, typeFlat}
+use Rattle.canon.specs.Row.{noInner, Info, infoOf, typeFlat, infoLayout}
 use Rattle.canon.specs.Reach.{reach}
 use Rattle.canon.proofs.Alignments.{flags-by, layout-aligned}
 use Rattle.canon.proofs.Tightest.{Aligned, le-recordSize}
@@ -25,7 +25,7 @@ use Rattle.types.specs.Leaves.{given, flagsAnswer}
 use Rattle.types.proofs.ExtentLaws.{membersOf, member-reach, member-fits, close-fits, members-reach, record-reach, fitted-fits}
 use Rattle.flat_types.specs.Lists.{unpacked, packed, memoryWords}
 use Rattle.flat_types.proofs.Rows.{both-in, repeat-words, flags-words}
-use Rattle.build.specs.Steps.{infoFlat, infoLayout}
+use Rattle.build.specs.Steps.{infoFlat}
 use Rattle.build.specs.Kinds.{listRow, fixedRow, flagsRow, valueStep, entryRow}
 use Rattle.build.proofs.Wording.{fit-same}
 use Rattle.build.proofs.FitLaws.{rowLeaf, each, type-counted, row-words, row-fits, fit-row}

@@ -6,7 +6,7 @@ use lib.ListN.{length, getD}
 use Rattle.canon.specs.Answer.{Leaf, is, lift, andThen}
 use Rattle.canon.specs.Layout.{Memory, both, within}
 use Rattle.canon.specs.Flat.{copies, flagsFlat}
-use Rattle.canon.specs.Row.{noInner, Info, rowWords}
+use Rattle.canon.specs.Row.{noInner, Info, rowWords, infoLayout}
 use Rattle.canon.specs.Reach.{noReach, joinReach}
 use Rattle.canon.specs.Types.{Kind, kRecord, kVariant, kList, kTuple, kMap, kFlags, kEnum, kOption, kResult, kFixed}
 use Rattle.types.specs.Extents.{startExtent, extentAt, memberOf, closeOf}
@@ -14,7 +14,7 @@ use Rattle.types.specs.Leaves.{discriminantAnswer, flagsAnswer}
 use Rattle.types.specs.declared.extent.Step.{Step}
 use Rattle.flat_types.specs.Lists.{unpacked, packed, memoryWords}
 use Rattle.head.specs.Heads.{Heading, headAt, between}
-use Rattle.build.specs.Steps.{caseLook, foldRefs, pairWords, fitRow, infoFlat, infoLayout, noMembers, addMember, membersRow, noPayloads, addPayload, addCase, payloadsRow}
+use Rattle.build.specs.Steps.{caseLook, foldRefs, pairWords, fitRow, infoFlat, noMembers, addMember, membersRow, noPayloads, addPayload, addIfPayload, payloadsRow}
 
 unfoldable pub listRow : Info → Leaf (List ℕ)
 listRow i = is (pairWords 3 (both (λ m. noInner)) (i .reach))
@@ -30,7 +30,7 @@ flagsRow n =
 
 -- a variant's row, and a result's, by the kind's word
 unfoldable pub variantRow : ℕ → (ℕ → Leaf Info) → List ℕ → Leaf (List ℕ)
-variantRow kind look ws = andThen (discriminantAnswer (length ws)) (λ d. foldRefs (caseLook look) addCase ws noPayloads (payloadsRow kind d))
+variantRow kind look ws = andThen (discriminantAnswer (length ws)) (λ d. foldRefs (caseLook look) addIfPayload ws noPayloads (payloadsRow kind d))
 
 unfoldable pub enumRow : ℕ → Leaf (List ℕ)
 enumRow n = andThen (discriminantAnswer n) (λ d. payloadsRow 7 d noPayloads)

@@ -6,11 +6,11 @@ use Prim.Native.Nat.{ℕ, _-_}
 use lib.Dec.{leb, ltb, eqb}
 use lib.ListN.{getElem?}
 use Rattle.canon.specs.Answer.{Leaf, is, no, badRef, andThen}
-use Rattle.canon.specs.Layout.{Memory, Both, both, within, Layout}
+use Rattle.canon.specs.Layout.{Both, both, within, Layout}
 use Rattle.canon.specs.Pack.{Packed}
 use Rattle.canon.specs.Description.{mark}
 use Rattle.canon.specs.Question.{plainInfo}
-use Rattle.canon.specs.Row.{countWord, Inner, noInner, noLayout, Info, rowInfo, rowWords}
+use Rattle.canon.specs.Row.{countWord, Inner, noInner, noLayout, Info, rowInfo, rowWords, infoLayout}
 use Rattle.canon.specs.Types.{plain}
 use Rattle.canon.specs.Reach.{Reach, noReach, joinReach}
 use Rattle.types.specs.Extents.{startExtent, memberOf, closeOf, variantStep, widest, fittedOf}
@@ -59,9 +59,6 @@ infoFlat i = record { number = countWord (i .abi .flats); types = whole (i .flat
 abbrev pub inEach : Packed → Both Packed
 inEach p = both (λ m. memoryWords m p)
 
-abbrev pub infoLayout : Memory → Info → Layout
-infoLayout m i = within m (i .abi .layouts)
-
 abbrev pub noWords : Packed
 noWords = record { number = 0; types = 0 }
 
@@ -105,9 +102,9 @@ addPayload s i =
       reach = joinReach (s .reach) (i .reach);
     }
 
-unfoldable pub addCase : PayloadsIs → Option Info → PayloadsIs
-addCase s none = s
-addCase s (some i) = addPayload s i
+unfoldable pub addIfPayload : PayloadsIs → Option Info → PayloadsIs
+addIfPayload s none = s
+addIfPayload s (some i) = addPayload s i
 
 unfoldable pub payloadsRow : ℕ → ℕ → PayloadsIs → Leaf (List ℕ)
 payloadsRow kind d s =

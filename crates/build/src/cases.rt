@@ -8,7 +8,7 @@ ghost use Rattle.table.specs.Means.{infoMeans};
 ghost use Rattle.head.specs.Heads.{between};
 ghost use Rattle.build.specs.Means.{payloadsMeans, joinedMeans, rowedMeans};
 ghost use Rattle.build.specs.Kinds.{variantRow, enumRow, optionRow};
-ghost use Rattle.build.specs.Steps.{noPayloads, addPayload, addCase, payloadsRow, memberLook, caseLook, foldRefs};
+ghost use Rattle.build.specs.Steps.{noPayloads, addPayload, addIfPayload, payloadsRow, memberLook, caseLook, foldRefs};
 use crate::reference::Payload;
 use crate::reference::case_at;
 use crate::reference::member_at;
@@ -71,7 +71,7 @@ impl Payloads {
 
     // Adds the payload of a case, if it has one.
     pub(crate) fn add_case(self, table: &[u32], index: DefinitionIndex, reference: u32) -> Joined
-        ensures { λ r. ⌜ joinedMeans r ≡ andThen (caseLook (memberLook (now (table .entry)) (index .0)) reference) (λ c. is (addCase (payloadsMeans self) c)) ⌝ }
+        ensures { λ r. ⌜ joinedMeans r ≡ andThen (caseLook (memberLook (now (table .entry)) (index .0)) reference) (λ c. is (addIfPayload (payloadsMeans self) c)) ⌝ }
     {
         match case_at(table, index, reference) {
             Payload::BadRef => Joined::BadRef,
@@ -109,7 +109,7 @@ fn cases_row(
     size: DiscriminantSize,
 ) -> Rowed
     requires { ⌜ (first ≤ end) × (end ≤ length (now words)) ⌝ }
-    ensures { λ r. ⌜ rowedMeans r ≡ foldRefs (caseLook (memberLook (now (table .entry)) (index .0))) addCase (between (now (words .entry)) first end) noPayloads (payloadsRow kind (bytesOf size)) ⌝ }
+    ensures { λ r. ⌜ rowedMeans r ≡ foldRefs (caseLook (memberLook (now (table .entry)) (index .0))) addIfPayload (between (now (words .entry)) first end) noPayloads (payloadsRow kind (bytesOf size)) ⌝ }
 {
     let mut payloads = Payloads::start();
     let mut at = first;

@@ -5,11 +5,8 @@ use mathlib.Core.List.{List, [], _∷_, _++_}
 use Prim.Native.Nat.{ℕ, _+_, _∣_, max}
 use native.Mathlib.Nat.{dvd-refl, dvd-add, one-dvd, dvd-mul-right-of-dvd}
 use lib.Dec.{leb}
-use Rattle.canon.specs.Types.{Scalar, facts, bool, s8, u8, s16, u16, s32, u32, s64, u64, float32, float64, char, own, borrowed}
-use Rattle.canon.specs.Types.{future, stream, errorContext, Ty, scalar, string, recordOf, variantOf, listOf, tupleOf, mapOf}
-use Rattle.canon.specs.Types.{flagsOf, enumOf, optionOf, resultOf, fixedOf, Members, ∅, _◂_, Case, bare, holding, Cases, ∎, _▸_, count}
-use Rattle.canon.specs.Layout.{Memory, mem32, mem64, Layout, square, ptrSize, greatestAlign, recordSize, discriminant}
-use Rattle.canon.specs.Layout.{variantAlign, payloadOffset, variantSize, flagsLayout, layout, members, payload, payloads, roundUp}
+use Rattle.canon.specs.Types.{Scalar, facts, bool, s8, u8, s16, u16, s32, u32, s64, u64, float32, float64, char, own, borrowed, future, stream, errorContext, Ty, scalar, string, recordOf, variantOf, listOf, tupleOf, mapOf, flagsOf, enumOf, optionOf, resultOf, fixedOf, Members, ∅, _◂_, Case, bare, holding, Cases, ∎, _▸_, count}
+use Rattle.canon.specs.Layout.{Memory, mem32, mem64, Layout, square, ptrSize, greatestAlign, recordSize, discriminant, variantAlign, payloadOffset, variantSize, flagsLayout, layout, members, payload, payloads, roundUp}
 use Rattle.canon.proofs.Rounding.{dvd-roundUp, max-alignment, Alignment, by1, by2, by4, by8}
 use Rattle.canon.proofs.Tightest.{Aligned, greatestAlign-alignment}
 

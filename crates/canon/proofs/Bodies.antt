@@ -1,11 +1,24 @@
--- Of the words of a body the type that it defines looks up those that `referencesOf` tells, and no other.
+-- Of the words of a body the type that it defines looks up those that `referencesOf` tells, and no other. A body has a word at least.
 use mathlib.Core.Path.{_≡_, refl}
 use mathlib.Core.List.{List, [], _∷_}
-use Prim.Native.Nat.{ℕ, suc}
+use Prim.Native.Nat.{ℕ, suc, _≤_}
+use native.Mathlib.Omega.{arith}
 use lib.ListN.{getD, take, drop}
 use Rattle.canon.specs.Types.{Ty, Kind, kRecord, kVariant, kList, kTuple, kMap, kFlags, kEnum, kOption, kResult, kFixed}
-use Rattle.canon.specs.Description.{reference, caseOf, membersOf, casesOf, shapeOf, referencesOf, typeOf}
+use Rattle.canon.specs.Description.{reference, caseOf, membersOf, casesOf, shapeOf, bodyLength, referencesOf, typeOf}
 use Rattle.canon.specs.Placement.{Every}
+
+pub body-some : (k : Kind) (n : ℕ) → 1 ≤ bodyLength (shapeOf k) n
+body-some kRecord n = omega arith
+body-some kVariant n = omega arith
+body-some kList n = omega arith
+body-some kTuple n = omega arith
+body-some kMap n = omega arith
+body-some kFlags n = omega arith
+body-some kEnum n = omega arith
+body-some kOption n = omega arith
+body-some kResult n = omega arith
+body-some kFixed n = omega arith
 
 -- the word names the same after the types ts as after us
 abbrev pub Alike : List Ty → List Ty → ℕ → Type 0

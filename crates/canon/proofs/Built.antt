@@ -9,15 +9,14 @@ use lib.Dec.{leb, ltb}
 use lib.ListN.{length, getD, take, drop, getElem?, length-map, length-append}
 use borrow.Author.Tests.{ltb-true, ltb-false}
 use Rattle.canon.specs.Answer.{Leaf, is, no as refuses, lift, lift2, badRef, tooLarge}
-use Rattle.canon.specs.Types.{Ty, recordOf, variantOf, listOf, tupleOf, mapOf, flagsOf, enumOf, optionOf, resultOf, fixedOf}
-use Rattle.canon.specs.Types.{plain, Kind, kRecord, kVariant, kList, kTuple, kMap, kFlags, kEnum, kOption, kResult, kFixed}
+use Rattle.canon.specs.Types.{Ty, recordOf, variantOf, listOf, tupleOf, mapOf, flagsOf, enumOf, optionOf, resultOf, fixedOf, plain, Kind, kRecord, kVariant, kList, kTuple, kMap, kFlags, kEnum, kOption, kResult, kFixed}
 use Rattle.canon.specs.Layout.{mem32, mem64}
 use Rattle.canon.specs.Row.{Info, rowOf}
 use Rattle.canon.specs.Table.{capacity, cellsFrom, putRows}
-use Rattle.canon.specs.Description.{reference, caseOf, membersOf, casesOf, kindOf, shapeOf, bodyLength, isBadCount, typeOf}
-use Rattle.canon.specs.Description.{isTooLarge, Defined, checked, bodied, define, follow, buildFrom, build, built, mostWords, tableAfter}
+use Rattle.canon.specs.Description.{reference, caseOf, membersOf, casesOf, kindOf, shapeOf, bodyLength, isBadCount, typeOf, isTooLarge, Defined, checked, bodied, define, follow, buildFrom, build, built, mostWords, tableAfter}
 use Rattle.canon.specs.Question.{plainInfo, readRow, read}
 use Rattle.canon.proofs.Tests.{impossible}
+use Rattle.canon.proofs.Bodies.{body-some}
 use Rattle.canon.proofs.Cells.{room-fits, length-putRows, row-at}
 use Rattle.canon.proofs.Rows.{Definition, row-good, row-back}
 use Rattle.canon.specs.Placement.{Every}
@@ -45,15 +44,16 @@ typeOf-definition ts kOption b t e = lifted optionOf (reference ts (getD b 0 0))
 typeOf-definition ts kResult b t e = lifted2 resultOf (caseOf ts (getD b 0 0)) (caseOf ts (getD b 1 0)) t (λ a c. omega arith) e
 typeOf-definition ts kFixed b t e = lifted (λ a. fixedOf a (getD b 1 0)) (reference ts (getD b 0 0)) t (λ a. omega arith) e
 
-passed : (b : Bool) (x : ℕ) (l : Leaf Defined) (d : Defined) → cond b (refuses x) l ≡ is d → l ≡ is d
-passed true x l d e = impossible (cc)
-passed false x l d e = e
+-- what is defined behind a test passed it
+pub passed-test : (b : Bool) (x : ℕ) (l : Leaf Defined) (d : Defined) → cond b (refuses x) l ≡ is d → (b ≡ false) × (l ≡ is d)
+passed-test true x l d e = absurd (impossible (cc))
+passed-test false x l d e = (refl, e)
 
 checked-definition : (ts : List Ty) (k : Kind) (b : List ℕ) (n : ℕ) (o : Option Ty) (d : Defined) → typeOf ts k b ≡ o → checked n o ≡ is d → Definition (d .type)
 unfolding checked
 checked-definition ts k b n none d e h = impossible (cc)
 checked-definition ts k b n (some t) d e h =
-    let p : _≡_ {A = Leaf Defined} (is (record { type = t; length = n })) (is d) = passed (isTooLarge mem32 t || isTooLarge mem64 t) tooLarge _ d h in
+    let p : _≡_ {A = Leaf Defined} (is (record { type = t; length = n })) (is d) = passed-test (isTooLarge mem32 t || isTooLarge mem64 t) tooLarge _ d h .1 in
     let q : record { type = t; length = n } ≡ d = cc in
     let r : t ≡ d .type = ap (λ (x : Defined). x .type) q in
     rw (← r) (typeOf-definition ts k b t e)
@@ -63,7 +63,28 @@ unfolding bodied
 define-definition ts none ws d h = impossible (cc)
 define-definition ts (some k) ws d h =
     checked-definition ts k (take (bodyLength (shapeOf k) (getD ws 0 0)) ws) (bodyLength (shapeOf k) (getD ws 0 0)) _ d refl
-    (passed (isBadCount k (getD ws 0 0)) _ _ d (passed (ltb (length ws) (bodyLength (shapeOf k) (getD ws 0 0))) _ _ d h))
+    (passed-test (isBadCount k (getD ws 0 0)) _ _ d (passed-test (ltb (length ws) (bodyLength (shapeOf k) (getD ws 0 0))) _ _ d h .1) .1)
+
+-- it has a word at least after its kind word
+
+checked-length : (n : ℕ) (o : Option Ty) (d : Defined) → checked n o ≡ is d → n ≡ d .length
+unfolding checked
+checked-length n none d h = impossible (cc)
+checked-length n (some t) d h =
+    let p : _≡_ {A = Leaf Defined} (is (record { type = t; length = n })) (is d) = passed-test (isTooLarge mem32 t || isTooLarge mem64 t) tooLarge _ d h .1 in
+    let q : record { type = t; length = n } ≡ d = cc in
+    ap (λ (x : Defined). x .length) q
+
+pub define-some : (ts : List Ty) (o : Option Kind) (ws : List ℕ) (d : Defined) → bodied ts o ws ≡ is d → 1 ≤ d .length
+unfolding bodied
+define-some ts none ws d h = impossible (cc)
+define-some ts (some k) ws d h =
+    omega (
+      arith,
+      body-some k (getD ws 0 0),
+      checked-length (bodyLength (shapeOf k) (getD ws 0 0)) _ d
+          (passed-test (isBadCount k (getD ws 0 0)) _ _ d (passed-test (ltb (length ws) (bodyLength (shapeOf k) (getD ws 0 0))) _ _ d h .1) .1),
+    )
 
 -- what a build keeps true at each definition, of the room left and the types so far, holds at its end
 pub build-keeps :
@@ -84,9 +105,9 @@ build-keeps P step (suc room) ts (w ∷ ws) h =
     go (is d) e more = more (ts ++ d .type ∷ []) (drop (d .length) ws) (step room ts w ws d e h)
     go (refuses x) e more = (suc room, h)
 
-every-snoc : (ts : List Ty) (t : Ty) → Every Definition ts → Definition t → Every Definition (ts ++ t ∷ [])
-every-snoc [] t v d = (d, tt)
-every-snoc (u ∷ ts) t v d = (v .0, every-snoc ts t (v .1) d)
+pub every-snoc : (P : Ty → Type 0) (ts : List Ty) (t : Ty) → Every P ts → P t → Every P (ts ++ t ∷ [])
+every-snoc P [] t v d = (d, tt)
+every-snoc P (u ∷ ts) t v d = (v .0, every-snoc P ts t (v .1) d)
 
 -- definitions, and as many as there is room for at most
 pub record Sound (room : ℕ) (ts : List Ty) : Type 0 where
@@ -98,7 +119,7 @@ Keeps room left ts = Every Definition ts × (left + length ts ≤ room)
 
 pub keeps-step : (room left : ℕ) (ts : List Ty) (w : ℕ) (ws : List ℕ) (d : Defined) → define ts w ws ≡ is d → Keeps room (suc left) ts → Keeps room left (ts ++ d .type ∷ [])
 keeps-step room left ts w ws d e h =
-    (every-snoc ts (d .type) (h .0) (define-definition ts (kindOf w) ws d e), omega (arith, length-append ts (d .type ∷ [])))
+    (every-snoc Definition ts (d .type) (h .0) (define-definition ts (kindOf w) ws d e), omega (arith, length-append ts (d .type ∷ [])))
 
 pub built-sound : (ws t : List ℕ) → Sound (capacity (length t)) (built ws t .types)
 unfolding build

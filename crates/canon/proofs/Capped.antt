@@ -1,5 +1,5 @@
 -- A table, a buffer or a list that is longer than any call can use answers as its first words do: no row and no offset stands beyond the word
--- 16,384, and one reference more than 16,384 is too many already.
+-- 16,384, and one reference more than 16,384 is too many already. Nor can a build use more rows than one for two words.
 use mathlib.Core.Path.{_≡_, refl, sym, ap, ap₂, _∙_, fun-ext}
 use mathlib.Core.Bool.{Bool, true, false, cond, _||_}
 use mathlib.Core.List.{List, [], _∷_, _++_, map, append-assoc}
@@ -8,27 +8,26 @@ use Prim.Native.Nat.{ℕ, zero, suc, _+_, _*_, _-_, _≤_, _<_, min}
 use native.Mathlib.Decide.{decLe}
 use native.Mathlib.Omega.{arith}
 use lib.Dec.{leb, ltb}
-use lib.ListN.{length, take, drop, set, getElem?, length-set, length-take, length-map, take-append-drop}
+use lib.ListN.{length, take, drop, set, getElem?, length-set, length-take, length-drop, length-map, take-append-drop}
 use lib.Seq.{take-all, getD-take, set-append-left}
 use borrow.Author.Tests.{ltb-true, ltb-false, lt-ltb, le-ltb}
-use Rattle.canon.specs.Answer.{Leaf, no as refuses, Answer, ok, refused, atPosition, then, unless, tooLong, badRef, badCount, noRoom, badRow}
+use Rattle.canon.specs.Answer.{Leaf, is, no as refuses, Answer, ok, refused, then, unless, tooLong, badRef, badCount, noRoom, badRow}
 use Rattle.canon.specs.Layout.{Memory, within, Layout, starts, recordLayout}
 use Rattle.canon.specs.Row.{Info, rowOf}
 use Rattle.canon.specs.Table.{capacity, place, cell, cellsFrom, rowAt, putFrom, putRows}
-use Rattle.canon.specs.Description.{mostWords, built, buildAnswer, tableAfter}
-use Rattle.canon.specs.Question.{plainInfo, readRow, read, infos, tooMany, noTable, ask, askTwo, typeAnswer, sizeAlignAnswer}
-use Rattle.canon.specs.Question.{layoutsIn, Placing, refusedAt, judged, placed, placing, placementAnswer, bufferAfter, offsetsAfter}
-use Rattle.canon.specs.Types.{plain}
+use Rattle.canon.specs.Description.{kindOf, Defined, define, follow, buildFrom, mostWords, build, built, buildAnswer, tableAfter}
+use Rattle.canon.specs.Question.{plainInfo, readRow, read, infos, tooMany, noTable, ask, askTwo, layoutsIn, Placing, refusedAt, judged, placed, placing, placementAnswer, bufferAfter, offsetsAfter}
+use Rattle.canon.specs.Types.{Ty, plain}
 use Rattle.canon.proofs.Tests.{impossible, neither}
 use Rattle.canon.proofs.Cells.{place-fits, room-fits, length-putFrom}
-use Rattle.canon.proofs.Built.{every-sixteen, built-sound}
+use Rattle.canon.proofs.Built.{define-some, every-sixteen, built-sound}
 use Rattle.canon.specs.Placement.{Every}
 use Rattle.canon.proofs.Questions.{infos-length}
 
 -- Tests
 
 -- a capped number is below what is at most the cap exactly when the number itself is
-below-first : (c a b : ℕ) → b ≤ c → ltb (min c a) b ≡ ltb a b
+pub below-first : (c a b : ℕ) → b ≤ c → ltb (min c a) b ≡ ltb a b
 below-first c a b h =
     elim (decLe b a) [
       | yes l ↦ le-ltb (min c a) b (omega arith) ∙ sym (le-ltb a b l)
@@ -36,10 +35,10 @@ below-first c a b h =
     ]
 
 -- two answers behind one test agree where they agree when it is passed
-behind : {A : Type 0} (b : Bool) (x : ℕ) {u v : Answer A} → (b ≡ false → u ≡ v) → unless b x u ≡ unless b x v
+past-test : {A : Type 0} (b : Bool) (x : ℕ) {u v : Answer A} → (b ≡ false → u ≡ v) → unless b x u ≡ unless b x v
 unfolding unless
-behind true x h = refl
-behind false x h = h refl
+past-test true x h = refl
+past-test false x h = h refl
 
 -- Rows
 
@@ -83,17 +82,9 @@ asked-first :
 unfolding noTable
 asked-first t n f =
     rw (table-first t n)
-    (behind (noTable t n) badRow (λ e. ap f (read-first t n (ltb-false 1024 n (neither (ltb 1024 n) (ltb (length t) (16 * n)) e .0)))))
+    (past-test (noTable t n) badRow (λ e. ap f (read-first t n (ltb-false 1024 n (neither (ltb 1024 n) (ltb (length t) (16 * n)) e .0)))))
 
 -- Questions
-
-pub type-first : (t : List ℕ) (n w : ℕ) → typeAnswer (take 16384 t) n w ≡ typeAnswer t n w
-unfolding typeAnswer
-type-first t n w = asked-first t n (λ look. atPosition 0 (look w))
-
-pub size-align-first : (m : Memory) (t : List ℕ) (n w : ℕ) → sizeAlignAnswer m (take 16384 t) n w ≡ sizeAlignAnswer m t n w
-unfolding sizeAlignAnswer
-size-align-first m t n w = rw (type-first t n w)
 
 many-first : (ws : List ℕ) → tooMany (take 16385 ws) ≡ tooMany ws
 many-first ws =
@@ -115,7 +106,7 @@ ask-room :
 unfolding ask
 ask-room t n b s s′ ws k h =
     rw (many-first ws)
-    (behind (tooMany ws) tooLong
+    (past-test (tooMany ws) tooLong
     (λ few. rw (h few, list-first ws few) (asked-first t n (λ look. unless b badCount (unless s′ noRoom (then (infos look 0 ws) k))))))
 
 pub ask-first :
@@ -129,7 +120,7 @@ pub askTwo-first :
 unfolding askTwo
 askTwo-first t n vs ws k =
     rw (many-first vs, many-first ws)
-    (behind (tooMany vs || tooMany ws) tooLong
+    (past-test (tooMany vs || tooMany ws) tooLong
     (λ few.
     let both = neither (tooMany vs) (tooMany ws) few in
     rw (list-first vs (both .0), list-first ws (both .1))
@@ -140,6 +131,41 @@ askTwo-first t n vs ws k =
 pub build-first : (ws t : List ℕ) → buildAnswer ws (take 16384 t) ≡ buildAnswer ws t
 unfolding buildAnswer
 build-first ws t = rw (room-first t)
+
+-- two words at least make a definition: more room than one row for two words is never used
+pub enough-room : (r s : ℕ) (ts : List Ty) (ws : List ℕ) → length ws ≤ 2 * r → length ws ≤ 2 * s → buildFrom r ts ws ≡ buildFrom s ts ws
+unfolding buildFrom
+enough-room zero zero ts ws h l = refl
+enough-room zero (suc s) ts [] h l = refl
+enough-room zero (suc s) ts (w ∷ ws) h l = absurd (omega arith)
+enough-room (suc r) zero ts [] h l = refl
+enough-room (suc r) zero ts (w ∷ ws) h l = absurd (omega arith)
+enough-room (suc r) (suc s) ts [] h l = refl
+enough-room (suc r) (suc s) ts (w ∷ ws) h l = go (define ts w ws) refl (λ us vs. enough-room r s us vs)
+  where
+    go :
+        (o : Leaf Defined) → define ts w ws ≡ o →
+        ((us : List Ty) (vs : List ℕ) → length vs ≤ 2 * r → length vs ≤ 2 * s → buildFrom r us vs ≡ buildFrom s us vs) →
+        follow ts ws o (λ us vs. buildFrom r us vs) ≡ follow ts ws o (λ us vs. buildFrom s us vs)
+    go (is d) e more =
+        let n = define-some ts (kindOf w) ws d e in
+        more (ts ++ d .type ∷ []) (drop (d .length) ws) (omega (arith, length-drop (d .length) ws)) (omega (arith, length-drop (d .length) ws))
+    go (refuses x) e more = refl
+
+-- so a table with room for n rows, if there are so many, builds 2 * n words as the whole one does
+pub built-enough :
+    (n : ℕ) (ws u t : List ℕ) → length ws ≤ 2 * n → capacity (length u) ≡ min n (capacity (length t)) → built ws u ≡ built ws t
+unfolding build
+built-enough n ws u t h e =
+    ap (cond (ltb mostWords (length ws)) (record { types = []; stopped = some tooLong }))
+    (ap (λ (r : ℕ). buildFrom r [] ws) e ∙ enough)
+  where
+    enough : buildFrom (min n (capacity (length t))) [] ws ≡ buildFrom (capacity (length t)) [] ws
+    enough =
+        elim (decLe n (capacity (length t))) [
+          | yes l ↦ enough-room (min n (capacity (length t))) (capacity (length t)) [] ws (omega arith) (omega arith)
+          | no l ↦ let q : min n (capacity (length t)) ≡ capacity (length t) = omega arith in ap (λ (r : ℕ). buildFrom r [] ws) q
+        ]
 
 -- stores into the front of a buffer leave what is behind it
 
@@ -199,19 +225,29 @@ placed-length fs p e = go (refusedAt fs) e
     go none e = let q : record { layout = recordLayout fs; offsets = starts 0 fs } ≡ p = cc in ap (λ (x : Placing). length (x .offsets)) (sym q) ∙ starts-length 0 fs
     go (some i) e = impossible (cc)
 
-few-offsets : (m : Memory) (t : List ℕ) (n : ℕ) (ws : List ℕ) (room : ℕ) (p : Placing) → placing m t n ws room ≡ ok p → length (p .offsets) ≤ 16384
+pub offsets-length : (m : Memory) (t : List ℕ) (n : ℕ) (ws : List ℕ) (room : ℕ) (p : Placing) → placing m t n ws room ≡ ok p → length (p .offsets) ≡ length ws
 unfolding placing ask unless then
-few-offsets m t n ws room p = go (tooMany ws) refl (noTable t n) (ltb room (length ws)) (infos (read t n) 0 ws) refl
+offsets-length m t n ws room p = go (tooMany ws) (noTable t n) (ltb room (length ws)) (infos (read t n) 0 ws) refl
   where
     go :
-        (many : Bool) → tooMany ws ≡ many → (missing short : Bool) (a : Answer (List Info)) → infos (read t n) 0 ws ≡ a →
-        unless many tooLong (unless missing badRow (unless short noRoom (then a (λ is′. placed (layoutsIn m is′))))) ≡ ok p → length (p .offsets) ≤ 16384
-    go true few missing short a f e = impossible (cc)
-    go false few true short a f e = impossible (cc)
-    go false few false true a f e = impossible (cc)
-    go false few false false (refused x q) f e = impossible (cc)
-    go false few false false (ok is′) f e =
-        omega (arith, few-length ws few, placed-length (layoutsIn m is′) p e, length-map is′ (λ (i : Info). within m (i .abi .layouts)), infos-length (read t n) 0 ws is′ f)
+        (many missing short : Bool) (a : Answer (List Info)) → infos (read t n) 0 ws ≡ a →
+        unless many tooLong (unless missing badRow (unless short noRoom (then a (λ is′. placed (layoutsIn m is′))))) ≡ ok p → length (p .offsets) ≡ length ws
+    go true missing short a f e = impossible (cc)
+    go false true short a f e = impossible (cc)
+    go false false true a f e = impossible (cc)
+    go false false false (refused x q) f e = impossible (cc)
+    go false false false (ok is′) f e =
+        placed-length (layoutsIn m is′) p e ∙ length-map is′ (λ (i : Info). within m (i .abi .layouts)) ∙ infos-length (read t n) 0 ws is′ f
+
+few-offsets : (m : Memory) (t : List ℕ) (n : ℕ) (ws : List ℕ) (room : ℕ) (p : Placing) → placing m t n ws room ≡ ok p → length (p .offsets) ≤ 16384
+unfolding placing ask unless
+few-offsets m t n ws room p e = go (tooMany ws) refl e
+  where
+    go :
+        (many : Bool) → tooMany ws ≡ many →
+        unless many tooLong (unless (noTable t n) badRow (unless (ltb room (length ws)) noRoom (then (infos (read t n) 0 ws) (λ is′. placed (layoutsIn m is′))))) ≡ ok p → length (p .offsets) ≤ 16384
+    go true many f = impossible (cc)
+    go false few f = omega (arith, few-length ws few, offsets-length m t n ws room p e)
 
 behind-first : {A : Type 0} (n c : ℕ) (l : List A) → n ≤ c → drop n (take c l) ++ drop c l ≡ drop n l
 behind-first zero c l h = take-append-drop c l
@@ -219,12 +255,14 @@ behind-first (suc n) zero l h = absurd (omega arith)
 behind-first (suc n) (suc c) [] h = refl
 behind-first (suc n) (suc c) (x ∷ l) h = behind-first n c l (omega arith)
 
-written-first : (a : Answer Placing) (out : List ℕ) → ((p : Placing) → a ≡ ok p → length (p .offsets) ≤ 16384) → bufferAfter a (take 16384 out) ++ drop 16384 out ≡ bufferAfter a out
+-- a buffer whose first c words have room for the offsets
+pub buffer-front :
+    (c : ℕ) (a : Answer Placing) (out : List ℕ) → ((p : Placing) → a ≡ ok p → length (p .offsets) ≤ c) → bufferAfter a (take c out) ++ drop c out ≡ bufferAfter a out
 unfolding bufferAfter
-written-first (ok p) out few =
-    append-assoc (p .offsets) (drop (length (p .offsets)) (take 16384 out)) (drop 16384 out)
-    ∙ ap (λ (l : List ℕ). p .offsets ++ l) (behind-first (length (p .offsets)) 16384 out (few p refl))
-written-first (refused x i) out few = take-append-drop 16384 out
+buffer-front c (ok p) out few =
+    append-assoc (p .offsets) (drop (length (p .offsets)) (take c out)) (drop c out)
+    ∙ ap (λ (l : List ℕ). p .offsets ++ l) (behind-first (length (p .offsets)) c out (few p refl))
+buffer-front c (refused x i) out few = take-append-drop c out
 
 pub offsets-first :
     (m : Memory) (t : List ℕ) (n : ℕ) (ws out : List ℕ) →
@@ -232,4 +270,4 @@ pub offsets-first :
 unfolding offsetsAfter
 offsets-first m t n ws out =
     rw (length-take 16384 out, placing-first m t n ws (length out))
-    (written-first (placing m t n ws (length out)) out (few-offsets m t n ws (length out)))
+    (buffer-front 16384 (placing m t n ws (length out)) out (few-offsets m t n ws (length out)))

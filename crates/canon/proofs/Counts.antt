@@ -10,11 +10,9 @@ use native.Mathlib.Omega.{arith}
 use lib.Dec.{leb}
 use lib.ListN.{length, length-append}
 use borrow.Author.Tests.{leb-true, leb-false}
-use Rattle.canon.specs.Types.{Ty, scalar, string, recordOf, variantOf, listOf, tupleOf, mapOf, flagsOf, enumOf}
-use Rattle.canon.specs.Types.{optionOf, resultOf, fixedOf, Members, ∅, _◂_, Case, bare, holding, Cases, ∎, _▸_, Core, I32}
+use Rattle.canon.specs.Types.{Ty, scalar, string, recordOf, variantOf, listOf, tupleOf, mapOf, flagsOf, enumOf, optionOf, resultOf, fixedOf, Members, ∅, _◂_, Case, bare, holding, Cases, ∎, _▸_, Core, I32}
 use Rattle.canon.specs.Layout.{Memory}
-use Rattle.canon.specs.Flat.{joinLists, joinAll, concat, flagsFlat, flatten, memberFlats, payloadFlat, payloadFlats, capped, addFlat, maxFlat}
-use Rattle.canon.specs.Flat.{timesFlat, sumFlat, greatestFlat, variantCount, flagsCount, flatCount, memberCounts, payloadCount, payloadCounts}
+use Rattle.canon.specs.Flat.{joinLists, joinAll, concat, flagsFlat, flatten, memberFlats, payloadFlat, payloadFlats, capped, addFlat, maxFlat, timesFlat, sumFlat, greatestFlat, variantCount, flagsCount, flatCount, memberCounts, payloadCount, payloadCounts}
 use Rattle.canon.proofs.FlatFolds.{length-join, length-copies, maxFlat-assoc, zero-maxFlat}
 
 -- 01's rule and the flat list part ways at one place: a fixed list of count 0 over an element without a count, met outside a list or map

@@ -4,8 +4,7 @@ use mathlib.Core.Path.{_≡_, refl, ap, _∙_}
 use mathlib.Core.List.{List, [], _++_, append-nil}
 use mathlib.Core.Option.{Option}
 use Prim.Native.Nat.{ℕ, zero, suc}
-use Rattle.canon.specs.Types.{Ty, scalar, string, recordOf, variantOf, listOf, tupleOf, mapOf, flagsOf, enumOf}
-use Rattle.canon.specs.Types.{optionOf, resultOf, fixedOf, Members, ∅, _◂_, Case, bare, holding, Cases, ∎, _▸_, count, Core}
+use Rattle.canon.specs.Types.{Ty, scalar, string, recordOf, variantOf, listOf, tupleOf, mapOf, flagsOf, enumOf, optionOf, resultOf, fixedOf, Members, ∅, _◂_, Case, bare, holding, Cases, ∎, _▸_, count, Core}
 use Rattle.canon.specs.Layout.{Memory, Layout, layout, payload, payloads, variantLayout}
 use Rattle.canon.specs.Flat.{flatten, payloadFlat, payloadFlats, variantFlat, flatCount, payloadCount, payloadCounts, variantCount}
 use Rattle.canon.specs.Reach.{noReach, joinReach, reach, payloadReach, caseReach}

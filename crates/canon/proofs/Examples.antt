@@ -6,20 +6,15 @@ use mathlib.Core.List.{List, [], _∷_, _++_, map}
 use Prim.Native.Nat.{ℕ, _+_, _-_}
 use lib.ListN.{replicate}
 use Rattle.canon.specs.Answer.{Answer, ok, refused, atPosition, then, unless}
-use Rattle.canon.specs.Layout.{Memory, mem32, mem64, greatestAlign, starts, ends, lastEnd, recordSize}
-use Rattle.canon.specs.Layout.{greatestSize, payloadOffset, variantSize, layout, numbers, roundUp}
+use Rattle.canon.specs.Layout.{Memory, mem32, mem64, greatestAlign, starts, ends, lastEnd, recordSize, greatestSize, payloadOffset, variantSize, layout, numbers, roundUp}
 use Rattle.canon.specs.Flat.{joinLists, joinAll, concat, copies, flatten, addFlat, maxFlat, timesFlat, sumFlat, greatestFlat, flatCount}
 use Rattle.canon.specs.Reach.{joinReach, reachWord, wordReach, goodReach, reach}
 use Rattle.canon.specs.Pack.{code, pack, unpack}
-use Rattle.canon.specs.Row.{Info, countWord, word, rowOf, flatOf, isAlignment}
-use Rattle.canon.specs.Row.{goodLayout, goodCount, unusedZero, goodAbi, isDiscriminant, isGood}
+use Rattle.canon.specs.Row.{Info, countWord, word, rowOf, flatOf, isAlignment, goodLayout, goodCount, unusedZero, goodAbi, isDiscriminant, isGood}
 use Rattle.canon.specs.Table.{capacity, place, cell, cellsFrom, rowAt, putFrom, putRows}
-use Rattle.canon.specs.Description.{reference, caseOf, membersOf, casesOf, kindOf, typeOf}
-use Rattle.canon.specs.Description.{isTooLarge, checked, bodied, buildFrom, build, buildAnswer, tableAfter}
-use Rattle.canon.specs.Question.{plainInfo, readRow, read, infos, noTable, ask, askTwo}
-use Rattle.canon.specs.Question.{typeAnswer, firstOver, orSize, refusedAt, judged, placed, placing}
-use Rattle.canon.specs.Signature.{Flattened, listed, inMemory, flatAll, atMost, flattenAnswer, Side, Signature}
-use Rattle.canon.specs.Signature.{orPointer, startOf, asyncStartAnswer, behindPointer, returned, returnOf, asyncReturnAnswer}
+use Rattle.canon.specs.Description.{reference, caseOf, membersOf, casesOf, kindOf, typeOf, isTooLarge, checked, bodied, buildFrom, build, buildAnswer, tableAfter}
+use Rattle.canon.specs.Question.{plainInfo, readRow, read, infos, noTable, ask, askTwo, typeAnswer, firstOver, orSize, refusedAt, judged, placed, placing}
+use Rattle.canon.specs.Signature.{Flattened, listed, inMemory, flatAll, atMost, flattenAnswer, Side, Signature, orPointer, startOf, asyncStartAnswer, behindPointer, returned, returnOf, asyncReturnAnswer}
 
 -- what is asked of a description's table, most often of its last definition
 pub data Query : Type 0 where

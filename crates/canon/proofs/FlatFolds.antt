@@ -12,8 +12,7 @@ use borrow.Author.Tests.{lt-leb, le-leb, leb-true, leb-false}
 use Rattle.canon.specs.Answer.{lift2}
 use Rattle.canon.specs.Types.{Ty, Members, ∅, _◂_, Case, bare, holding, Cases, ∎, _▸_, Core}
 use Rattle.canon.specs.Layout.{Memory}
-use Rattle.canon.specs.Flat.{joinLists, joinAll, concat, copies, capped, addFlat, maxFlat, timesFlat, sumFlat, greatestFlat}
-use Rattle.canon.specs.Flat.{flatten, memberFlats, payloadFlat, payloadFlats, flatCount, memberCounts, payloadCount, payloadCounts}
+use Rattle.canon.specs.Flat.{joinLists, joinAll, copies, capped, addFlat, maxFlat, sumFlat, greatestFlat, flatten, memberFlats, payloadFlat, payloadFlats, flatCount, memberCounts, payloadCount, payloadCounts}
 use Rattle.canon.specs.Row.{Info, flatOf}
 use Rattle.canon.specs.Signature.{flatAll}
 
@@ -55,12 +54,6 @@ counted-join (some i) none k l p q n e = let z : _≡_ {A = ℕ} 0 1 = cc in abs
 counted-join (some i) (some j) k l p q n e =
     let f : max i j ≡ n = cc in omega (arith, length-join k l, p i refl, q j refl)
 
-pub counted-copies : (a : Option ℕ) (l : List Core) (n : ℕ) → Counted a l → Counted (timesFlat a n) (copies n l)
-unfolding timesFlat
-counted-copies none l n p i e = let z : _≡_ {A = ℕ} 0 1 = cc in absurd (omega arith)
-counted-copies (some i) l n p j e =
-    capped-counted (copies n l) (i * n) (length-copies n l ∙ ap (λ (x : ℕ). x * n) (p i refl .0)) j e
-
 -- One part more at the end, as a loop from left to right meets it
 
 add-capped : (a n : ℕ) → addFlat (some a) (capped n) ≡ capped (a + n)
@@ -87,16 +80,6 @@ addFlat-assoc (some i) (some j) (some k) =
     let e : i + (j + k) ≡ k + (i + j) = omega arith in
     add-capped i (j + k) ∙ ap capped e ∙ sym (addFlat-comm (capped (i + j)) (some k) ∙ add-capped k (i + j))
 
-pub sumFlat-more : (as′ : List (Option ℕ)) (a : Option ℕ) → sumFlat (as′ ++ a ∷ []) ≡ addFlat (sumFlat as′) a
-unfolding sumFlat
-sumFlat-more [] a = addFlat-comm a (some 0)
-sumFlat-more (b ∷ as′) a = ap (addFlat b) (sumFlat-more as′ a) ∙ addFlat-assoc b (sumFlat as′) a
-
-pub concat-more : (ls : List (List Core)) (l : List Core) → concat (ls ++ l ∷ []) ≡ concat ls ++ l
-unfolding concat
-concat-more [] l = append-nil l
-concat-more (k ∷ ls) l = ap (λ (x : List Core). k ++ x) (concat-more ls l) ∙ sym (append-assoc k (concat ls) l)
-
 pub maxFlat-assoc : (a b c : Option ℕ) → maxFlat a (maxFlat b c) ≡ maxFlat (maxFlat a b) c
 unfolding maxFlat
 maxFlat-assoc none b c = refl
@@ -113,11 +96,6 @@ pub zero-maxFlat : (a : Option ℕ) → maxFlat (some 0) a ≡ a
 unfolding maxFlat
 zero-maxFlat none = refl
 zero-maxFlat (some n) = ap some (omega arith)
-
-pub greatestFlat-more : (as′ : List (Option ℕ)) (a : Option ℕ) → greatestFlat (as′ ++ a ∷ []) ≡ maxFlat (greatestFlat as′) a
-unfolding greatestFlat
-greatestFlat-more [] a = maxFlat-zero a ∙ sym (zero-maxFlat a)
-greatestFlat-more (b ∷ as′) a = ap (maxFlat b) (greatestFlat-more as′ a) ∙ maxFlat-assoc b (greatestFlat as′) a
 
 -- none, or at most 16
 abbrev pub Small : Option ℕ → Type 0
@@ -174,11 +152,6 @@ greats-from a (c ∷ cs) = greats-from (maxFlat a c) cs ∙ sym (maxFlat-assoc a
 pub greats-greatest : (cs : List (Option ℕ)) → greats (some 0) cs ≡ greatestFlat cs
 greats-greatest cs = greats-from (some 0) cs ∙ zero-maxFlat (greatestFlat cs)
 
-pub joinAll-more : (acc : List Core) (ls : List (List Core)) (l : List Core) → joinAll acc (ls ++ l ∷ []) ≡ joinLists (joinAll acc ls) l
-unfolding joinAll
-joinAll-more acc [] l = refl
-joinAll-more acc (k ∷ ls) l = joinAll-more (joinLists acc k) ls l
-
 lift2-assoc : (a b c : Option (List Core)) → lift2 _++_ a (lift2 _++_ b c) ≡ lift2 _++_ (lift2 _++_ a b) c
 lift2-assoc none b c = refl
 lift2-assoc (some k) none c = refl
@@ -208,11 +181,6 @@ pub allCounted-append :
     AllCounted (as′ ++ bs) (ks ++ ls)
 allCounted-append nil q = q
 allCounted-append (cons c p) q = cons c (allCounted-append p q)
-
-pub counted-concat : {as′ : List (Option ℕ)} {ls : List (List Core)} → AllCounted as′ ls → Counted (sumFlat as′) (concat ls)
-unfolding sumFlat concat
-counted-concat nil n e = let f : 0 ≡ n = cc in omega arith
-counted-concat (cons {a} {l} {as′} {ls} c p) n e = counted-append a (sumFlat as′) l (concat ls) c (counted-concat p) n e
 
 joined-counted :
     {as′ : List (Option ℕ)} {ls : List (List Core)} (a : Option ℕ) (k : List Core) →

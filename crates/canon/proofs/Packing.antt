@@ -51,7 +51,8 @@ pub code-decode : (x : ℕ) → x < 4 → code (decode x) ≡ x
 code-decode zero h = refl
 code-decode (suc zero) h = refl
 code-decode (suc (suc zero)) h = refl
-code-decode (suc (suc (suc x))) h = omega arith
+code-decode (suc (suc (suc zero))) h = refl
+code-decode (suc (suc (suc (suc x)))) h = absurd (omega arith)
 
 pub pack-unpack : (n w : ℕ) → w < 4 ^ n → pack (unpack n w) ≡ w
 unfolding pack unpack

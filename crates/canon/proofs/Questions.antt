@@ -18,8 +18,7 @@ use Rattle.canon.specs.Reach.{Reach, noReach, joinReach, reach}
 use Rattle.canon.specs.Row.{Info, infoOf, rowAbi, rowInfo, rowOf, word, goodAbi, isGood}
 use Rattle.canon.specs.Table.{capacity, rowAt}
 use Rattle.canon.specs.Description.{reference, built, tableAfter}
-use Rattle.canon.specs.Question.{plainInfo, readRow, read, infos, tooMany, noTable, ask}
-use Rattle.canon.specs.Question.{askTwo, typeAnswer, layoutsIn, Placing, placed, placing, reachAll}
+use Rattle.canon.specs.Question.{plainInfo, readRow, read, infos, tooMany, noTable, ask, askTwo, typeAnswer, layoutsIn, Placing, placed, placing, reachAll}
 use Rattle.canon.specs.Signature.{flatAll}
 use Rattle.canon.proofs.Tests.{impossible, both-true}
 use Rattle.canon.proofs.Tightest.{Aligned}

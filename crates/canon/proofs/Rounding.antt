@@ -3,8 +3,7 @@ use mathlib.Core.Path.{_≡_, refl}
 use mathlib.Core.Logic.{⊎-elim}
 use mathlib.Core.Bool.{true}
 use Prim.Native.Nat.{ℕ, suc, _+_, _-_, _*_, _/_, _≤_, _<_, _∣_, max}
-use native.Mathlib.Nat.{lt-div-mul-add, div-mul-cancel, div-lt-iff-lt-mul, mul-le-mul-right}
-use native.Mathlib.Nat.{dvd-mul-left, dvd-of-mod-eq-zero, max-eq-left, max-eq-right, lt-of-not-le}
+use native.Mathlib.Nat.{lt-div-mul-add, div-mul-cancel, div-lt-iff-lt-mul, mul-le-mul-right, dvd-mul-left, dvd-of-mod-eq-zero, max-eq-left, max-eq-right, lt-of-not-le}
 use native.Mathlib.Decide.{decLe}
 use native.Mathlib.Omega.{arith}
 use lib.Dec.{eqb}
@@ -29,10 +28,6 @@ roundUp-least x a y h le d =
     let q : (x + (a - 1)) / a < suc (y / a) = div-lt-iff-lt-mul h .1 lt in
     let m : (x + (a - 1)) / a * a ≤ y / a * a = mul-le-mul-right a (omega arith) in
     omega arith
-
--- the same number, whatever it is rounded from
-pub roundUp-mono : (x y a : ℕ) → 0 < a → x ≤ y → roundUp x a ≤ roundUp y a
-roundUp-mono x y a h le = roundUp-least x a (roundUp y a) h (omega (arith, le-roundUp y a h)) (dvd-roundUp y a)
 
 -- 01: "alignments are 1, 2, 4 or 8"
 pub data Alignment : ℕ → Type 0 where

@@ -9,14 +9,12 @@ use lib.Dec.{leb, eqb}
 use lib.ListN.{length}
 use borrow.Author.Tests.{eqb-true, le-leb, eq-eqb, ne-eqb}
 use Rattle.canon.specs.Answer.{lift}
-use Rattle.canon.specs.Types.{Ty, scalar, string, recordOf, variantOf, listOf, tupleOf}
-use Rattle.canon.specs.Types.{mapOf, flagsOf, enumOf, optionOf, resultOf, fixedOf, count}
+use Rattle.canon.specs.Types.{Ty, scalar, string, recordOf, variantOf, listOf, tupleOf, mapOf, flagsOf, enumOf, optionOf, resultOf, fixedOf, count}
 use Rattle.canon.specs.Layout.{Memory, mem32, mem64, discriminant, layout}
 use Rattle.canon.specs.Flat.{flatten, flatCount}
 use Rattle.canon.specs.Reach.{reach}
 use Rattle.canon.specs.Pack.{unpack}
-use Rattle.canon.specs.Row.{rowKind, countWord, countOf, flatWord, inner, rowOf, rowAbi, infoOf, rowInfo}
-use Rattle.canon.specs.Row.{flatOf, goodLayout, goodCount, unusedZero, goodAbi, isDiscriminant, isGood}
+use Rattle.canon.specs.Row.{rowKind, countWord, countOf, flatWord, inner, rowOf, rowAbi, infoOf, rowInfo, flatOf, goodLayout, goodCount, unusedZero, goodAbi, isDiscriminant, isGood}
 use Rattle.canon.proofs.Rounding.{alignment-test}
 use Rattle.canon.proofs.Alignments.{layout-aligned, layout-whole}
 use Rattle.canon.proofs.Packing.{pack-lt, unpack-pack}

@@ -1,15 +1,13 @@
 -- Too large in 01's words (a start, an end or the size) comes to the size alone.
-use mathlib.Core.Path.{_≡_, refl, sym, ap, _∙_}
-use mathlib.Core.Bool.{Bool, true, false, _||_, or-false, or-true}
+use mathlib.Core.Path.{_≡_, refl, sym}
+use mathlib.Core.Bool.{Bool, true, false, _||_, or-false}
 use mathlib.Core.List.{List, [], _∷_, _++_}
-use Prim.Native.Nat.{ℕ, _+_, _≤_, _<_}
+use Prim.Native.Nat.{ℕ, _+_, _≤_}
 use native.Mathlib.Omega.{arith}
 use lib.Dec.{ltb}
-use borrow.Author.Tests.{ltb-false, le-ltb, ltb-true, lt-ltb}
-use Rattle.canon.specs.Types.{Ty, scalar, string, recordOf, variantOf, listOf, tupleOf}
-use Rattle.canon.specs.Types.{mapOf, flagsOf, enumOf, optionOf, resultOf, fixedOf, count}
-use Rattle.canon.specs.Layout.{Memory, mem32, mem64, Layout, largestNumber, starts, ends, lastEnd, recordSize, recordNumbers}
-use Rattle.canon.specs.Layout.{greatestSize, payloadOffset, variantSize, variantNumbers, layout, members, payload, payloads, numbers, roundUp}
+use borrow.Author.Tests.{ltb-true, lt-ltb}
+use Rattle.canon.specs.Types.{Ty, scalar, string, recordOf, variantOf, listOf, tupleOf, mapOf, flagsOf, enumOf, optionOf, resultOf, fixedOf, count}
+use Rattle.canon.specs.Layout.{Memory, mem32, mem64, Layout, largestNumber, starts, ends, lastEnd, recordSize, recordNumbers, greatestSize, payloadOffset, variantSize, variantNumbers, layout, members, payload, payloads, numbers, roundUp}
 use Rattle.canon.specs.Description.{someAbove, isTooLarge}
 use Rattle.canon.proofs.Rounding.{le-roundUp, alignment-pos}
 use Rattle.canon.proofs.Tightest.{Aligned, le-lastEnd, le-recordSize}
@@ -50,37 +48,6 @@ unfolding ends lastEnd
 ends-below e y [] w h = tt
 ends-below e y (f ∷ fs) w h =
     (omega (arith, le-lastEnd (roundUp e (f .align) + f .size) fs (w .1)), ends-below (roundUp e (f .align) + f .size) y fs (w .1) h)
-
--- where the last end passes, some end does
-some-end : (n e : ℕ) (fs : List Layout) → e ≤ n → n < lastEnd e fs → someAbove n (ends e fs) ≡ true
-unfolding ends lastEnd
-some-end n e [] h l = absurd (omega arith)
-some-end n e (f ∷ fs) h l = go (ltb n (roundUp e (f .align) + f .size)) refl (λ k. some-end n (roundUp e (f .align) + f .size) fs k l)
-  where
-    go :
-        (b : Bool) →
-        ltb n (roundUp e (f .align) + f .size) ≡ b →
-        (roundUp e (f .align) + f .size ≤ n → someAbove n (ends (roundUp e (f .align) + f .size) fs) ≡ true) →
-        (b || someAbove n (ends (roundUp e (f .align) + f .size) fs)) ≡ true
-    go true p k = refl
-    go false p k = k (ltb-false n (roundUp e (f .align) + f .size) p)
-
-none-above : (n y : ℕ) (xs : List ℕ) → y ≤ n → Every (λ x. x ≤ y) xs → someAbove n xs ≡ false
-none-above n y [] h w = refl
-none-above n y (x ∷ xs) h w = rw (le-ltb n x (omega (arith, w .0)), none-above n y xs h (w .1))
-
--- of the members, before the size is known: the last end
-pub members-decide : (n : ℕ) (fs : List Layout) → Aligned fs → someAbove n (starts 0 fs ++ ends 0 fs) ≡ ltb n (lastEnd 0 fs)
-members-decide n fs w = go (ltb n (lastEnd 0 fs)) refl
-  where
-    go : (b : Bool) → ltb n (lastEnd 0 fs) ≡ b → someAbove n (starts 0 fs ++ ends 0 fs) ≡ b
-    go true h =
-        above-append n (starts 0 fs) (ends 0 fs)
-        ∙ ap (λ (b : Bool). someAbove n (starts 0 fs) || b) (some-end n 0 fs (omega arith) (ltb-true n (lastEnd 0 fs) h))
-        ∙ or-true (someAbove n (starts 0 fs))
-    go false h =
-        none-above n (lastEnd 0 fs) (starts 0 fs ++ ends 0 fs) (ltb-false n (lastEnd 0 fs) h)
-        (every-append _ (starts 0 fs) (ends 0 fs) (starts-below 0 (lastEnd 0 fs) fs w (omega arith)) (ends-below 0 (lastEnd 0 fs) fs w (omega arith)))
 
 -- of a record: the size
 pub record-decides : (n : ℕ) (fs : List Layout) → Aligned fs → someAbove n (recordNumbers fs) ≡ ltb n (recordSize fs)

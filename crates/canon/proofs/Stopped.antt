@@ -15,8 +15,7 @@ use Rattle.canon.specs.Answer.{Leaf, is, no as refuses, refused, lift, t
 use Rattle.canon.specs.Types.{Ty, Members, Kind}
 use Rattle.canon.specs.Layout.{mem32, mem64, members}
 use Rattle.canon.specs.Table.{capacity}
-use Rattle.canon.specs.Description.{kindOf, shapeOf, bodyLength, membersOf, typeOf, Defined, checked, bodied}
-use Rattle.canon.specs.Description.{define, Built, follow, buildFrom, mostWords, build, answered, built, buildAnswer}
+use Rattle.canon.specs.Description.{kindOf, shapeOf, bodyLength, membersOf, typeOf, Defined, checked, bodied, define, Built, follow, buildFrom, mostWords, build, answered, built, buildAnswer}
 use Rattle.canon.proofs.Tests.{impossible}
 use Rattle.canon.proofs.Refusals.{Product, aRecord, aTuple, Passes, refused-six}
 use Rattle.canon.proofs.Built.{build-keeps, Sound, keeps-step}

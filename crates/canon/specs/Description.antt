@@ -1,18 +1,15 @@
 -- What a description's words mean: the types that it defines, and the refusal if there is one (01, "The description and its words").
-use mathlib.Core.Bool.{Bool, false, cond, _||_}
+use mathlib.Core.Bool.{Bool, false, cond, _||_, _&&_}
 use mathlib.Core.List.{List, [], _∷_, _++_, map}
 use mathlib.Core.Option.{Option, none, some}
 use Prim.Native.Nat.{ℕ, zero, suc, _+_, _-_}
 use lib.Dec.{leb, ltb, eqb}
 use lib.ListN.{length, getD, take, drop, getElem?}
-use Rattle.canon.specs.Types.{Ty, recordOf, variantOf, listOf, tupleOf, mapOf, flagsOf, enumOf, optionOf, resultOf, fixedOf, plain}
-use Rattle.canon.specs.Types.{Members, ∅, _◂_, Case, bare, holding, Cases, ∎, _▸_}
-use Rattle.canon.specs.Types.{Kind, kRecord, kVariant, kList, kTuple, kMap, kFlags, kEnum, kOption, kResult, kFixed, kindWord}
+use Rattle.canon.specs.Types.{Ty, recordOf, variantOf, listOf, tupleOf, mapOf, flagsOf, enumOf, optionOf, resultOf, fixedOf, plain, Members, ∅, _◂_, Case, bare, holding, Cases, ∎, _▸_, Kind, kRecord, kVariant, kList, kTuple, kMap, kFlags, kEnum, kOption, kResult, kFixed, kindWord}
 use Rattle.canon.specs.Layout.{Memory, mem32, mem64, mostFlags, largestNumber, numbers}
 use Rattle.canon.specs.Row.{rowOf}
 use Rattle.canon.specs.Table.{capacity, putRows}
-use Rattle.canon.specs.Answer.{Leaf, is, no, Answer, ok, refused, lift, lift2}
-use Rattle.canon.specs.Answer.{tooLong, truncated, badKind, badRef, badCount, tooLarge, noRoom}
+use Rattle.canon.specs.Answer.{Leaf, is, no, Answer, ok, refused, lift, lift2, tooLong, truncated, badKind, badRef, badCount, tooLarge, noRoom}
 
 -- References
 
@@ -73,18 +70,12 @@ abbrev pub referencesOf : Shape → List ℕ → List ℕ
 referencesOf counted b = drop 1 b
 referencesOf (fixed r k) b = take r b
 
+abbrev isKind : Kind → Kind → Bool
+isKind j k = eqb (kindWord j) (kindWord k)
+
 -- refusal 5: "variant or enum with n = 0, flags above 32"
 abbrev pub isBadCount : Kind → ℕ → Bool
-isBadCount kRecord n = false
-isBadCount kVariant n = eqb n 0
-isBadCount kList n = false
-isBadCount kTuple n = false
-isBadCount kMap n = false
-isBadCount kFlags n = ltb mostFlags n
-isBadCount kEnum n = eqb n 0
-isBadCount kOption n = false
-isBadCount kResult n = false
-isBadCount kFixed n = false
+isBadCount k n = cond (isKind kFlags k) (ltb mostFlags n) ((isKind kVariant k || isKind kEnum k) && eqb n 0)
 
 -- the type that the body b defines after the definitions ts; none for a bad reference
 unfoldable pub typeOf : List Ty → Kind → List ℕ → Option Ty

@@ -1,12 +1,12 @@
 -- Flat types of each type (CanonicalABI.md, flatten_type and join), and 01's flat count.
-use mathlib.Core.Bool.{cond}
+use mathlib.Core.Bool.{Bool, cond, _||_, _&&_}
 use mathlib.Core.List.{List, [], _∷_, _++_}
 use mathlib.Core.Option.{Option, none, some}
 use Prim.Native.Nat.{ℕ, zero, suc, _+_, _*_, max}
-use lib.Dec.{leb}
-use Rattle.canon.specs.Types.{Ty, scalar, string, recordOf, variantOf, listOf, tupleOf, mapOf, flagsOf, enumOf, optionOf, resultOf, fixedOf}
-use Rattle.canon.specs.Types.{Core, I32, I64, F32, F64, facts, Members, ∅, _◂_, Case, bare, holding, Cases, ∎, _▸_}
+use lib.Dec.{leb, eqb}
+use Rattle.canon.specs.Types.{Ty, scalar, string, recordOf, variantOf, listOf, tupleOf, mapOf, flagsOf, enumOf, optionOf, resultOf, fixedOf, Core, I32, I64, F32, facts, Members, ∅, _◂_, Case, bare, holding, Cases, ∎, _▸_}
 use Rattle.canon.specs.Layout.{Memory, mem32, mem64}
+use Rattle.canon.specs.Pack.{code}
 
 -- CanonicalABI.md, ptr_type
 abbrev pub ptrType : Memory → Core
@@ -17,24 +17,12 @@ ptrType mem64 = I64
 abbrev pub pairFlat : Memory → List Core
 pairFlat m = ptrType m ∷ ptrType m ∷ []
 
+abbrev same : Core → Core → Bool
+same a b = eqb (code a) (code b)
+
 -- join: "equal types stay, I32 with F32 gives I32, all other pairs I64"
 abbrev pub join : Core → Core → Core
-join I32 I32 = I32
-join I32 I64 = I64
-join I32 F32 = I32
-join I32 F64 = I64
-join I64 I32 = I64
-join I64 I64 = I64
-join I64 F32 = I64
-join I64 F64 = I64
-join F32 I32 = I32
-join F32 I64 = I64
-join F32 F32 = F32
-join F32 F64 = I64
-join F64 I32 = I64
-join F64 I64 = I64
-join F64 F32 = I64
-join F64 F64 = F64
+join a b = cond (same a b) a (cond (same a I32 && same b F32 || same a F32 && same b I32) I32 I64)
 
 -- "joined place by place": where one list ends, the other goes on
 unfoldable pub joinLists : List Core → List Core → List Core

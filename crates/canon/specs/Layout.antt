@@ -3,8 +3,7 @@ use mathlib.Core.Bool.{cond}
 use mathlib.Core.List.{List, [], _∷_, _++_}
 use Prim.Native.Nat.{ℕ, _+_, _-_, _*_, _/_, max}
 use lib.Dec.{leb}
-use Rattle.canon.specs.Types.{Ty, scalar, string, recordOf, variantOf, listOf, tupleOf, mapOf, flagsOf, enumOf, optionOf, resultOf, fixedOf}
-use Rattle.canon.specs.Types.{facts, Members, ∅, _◂_, Case, bare, holding, Cases, ∎, _▸_, count}
+use Rattle.canon.specs.Types.{Ty, scalar, string, recordOf, variantOf, listOf, tupleOf, mapOf, flagsOf, enumOf, optionOf, resultOf, fixedOf, facts, Members, ∅, _◂_, Case, bare, holding, Cases, ∎, _▸_, count}
 
 -- the memory, by the width of its pointers
 pub data Memory : Type 0 where

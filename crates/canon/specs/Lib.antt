@@ -2,10 +2,10 @@
 pub mod Answer
 pub mod Types
 pub mod Layout
+pub mod Pack
 pub mod Flat
 pub mod Placement
 pub mod Reach
-pub mod Pack
 pub mod Row
 pub mod Table
 pub mod Description

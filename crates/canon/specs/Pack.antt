@@ -1,6 +1,8 @@
 -- A flat list as a number. 01: "two bits each, first lowest, I32 0, I64 1, F32 2, F64 3, unused bits zero".
+use mathlib.Core.Bool.{cond}
 use mathlib.Core.List.{List, [], _∷_}
 use Prim.Native.Nat.{ℕ, zero, suc, _+_, _*_, _/_, _%_}
+use lib.Dec.{eqb}
 use Rattle.canon.specs.Types.{Core, I32, I64, F32, F64}
 
 abbrev pub code : Core → ℕ
@@ -15,10 +17,7 @@ pack (c ∷ cs) = pack cs * 4 + code c
 
 -- the core type of two bits
 abbrev pub decode : ℕ → Core
-decode zero = I32
-decode (suc zero) = I64
-decode (suc (suc zero)) = F32
-decode (suc (suc (suc n))) = F64
+decode b = cond (eqb b 0) I32 (cond (eqb b 1) I64 (cond (eqb b 2) F32 F64))
 
 -- the first n core types of a packed number
 unfoldable pub unpack : ℕ → ℕ → List Core

@@ -17,12 +17,7 @@ pub data Placed : ℕ → List Layout → List ℕ → ℕ → Type 0 where
   done : {e : ℕ} → Placed e [] [] e
   next :
       {e s l : ℕ} {f : Layout} {fs : List Layout} {ss : List ℕ} →
-      f .align ∣ s →
-      e ≤ s →
-      s < fourGiB →
-      s + f .size < fourGiB →
-      Placed (s + f .size) fs ss l →
-      Placed e (f ∷ fs) (s ∷ ss) l
+      f .align ∣ s → e ≤ s → s < fourGiB → s + f .size < fourGiB → Placed (s + f .size) fs ss l → Placed e (f ∷ fs) (s ∷ ss) l
 
 -- "the record's alignment, the least positive number every member's alignment divides (1 for none)"
 pub record LeastCommon (fs : List Layout) (a : ℕ) : Type 0 where

@@ -6,13 +6,12 @@ use Prim.Native.Nat.{ℕ, suc, _+_, _-_, _*_}
 use lib.Dec.{leb, ltb}
 use lib.ListN.{length, drop, getElem?}
 use Rattle.canon.specs.Types.{Ty, plain}
-use Rattle.canon.specs.Layout.{Memory, within, Layout, roundUp, starts, recordLayout, recordSize, largestNumber}
+use Rattle.canon.specs.Layout.{Memory, Layout, roundUp, starts, recordLayout, recordSize, largestNumber}
 use Rattle.canon.specs.Reach.{Reach, noReach, joinReach}
-use Rattle.canon.specs.Row.{Info, infoOf, rowInfo, isGood}
+use Rattle.canon.specs.Row.{Info, infoLayout, infoOf, rowInfo, isGood}
 use Rattle.canon.specs.Table.{rowAt}
 use Rattle.canon.specs.Description.{mostWords}
-use Rattle.canon.specs.Answer.{Leaf, is, no, Answer, ok, refused, atPosition, then, unless}
-use Rattle.canon.specs.Answer.{tooLong, badRef, badCount, tooLarge, noRoom, badRow}
+use Rattle.canon.specs.Answer.{Leaf, is, no, Answer, ok, refused, atPosition, then, unless, tooLong, badRef, badCount, tooLarge, noRoom, badRow}
 
 -- what a word below 64 stands for
 unfoldable pub plainInfo : Option Ty → Leaf Info
@@ -64,7 +63,7 @@ typeAnswer t n w = unless (noTable t n) badRow (atPosition 0 (read t n w))
 
 -- signature.rs, size_align
 unfoldable pub sizeAlignAnswer : Memory → List ℕ → ℕ → ℕ → Answer Layout
-sizeAlignAnswer m t n w = then (typeAnswer t n w) (λ i. ok (within m (i .abi .layouts)))
+sizeAlignAnswer m t n w = then (typeAnswer t n w) (λ i. ok (infoLayout m i))
 
 -- Placement
 
@@ -96,7 +95,7 @@ unfoldable pub placed : List Layout → Answer Placing
 placed fs = judged (refusedAt fs) (record { layout = recordLayout fs; offsets = starts 0 fs })
 
 abbrev pub layoutsIn : Memory → List Info → List Layout
-layoutsIn m is′ = map (λ (i : Info). within m (i .abi .layouts)) is′
+layoutsIn m is′ = map (infoLayout m) is′
 
 -- of references into a lent buffer of `room` words
 unfoldable pub placing : Memory → List ℕ → ℕ → List ℕ → ℕ → Answer Placing

@@ -1,18 +1,14 @@
 -- What a type reaches through its references, list elements too (01, word 15 of a row).
-use mathlib.Core.Bool.{Bool, true, false, cond, _||_}
+use mathlib.Core.Bool.{Bool, false, cond, _||_}
 use Prim.Native.Nat.{ℕ}
 use lib.Dec.{leb, eqb}
-use Rattle.canon.specs.Types.{Ty, scalar, string, recordOf, variantOf, listOf, tupleOf, mapOf, flagsOf, enumOf, optionOf, resultOf, fixedOf}
-use Rattle.canon.specs.Types.{facts, Members, ∅, _◂_, Case, bare, holding, Cases, ∎, _▸_}
+use Rattle.canon.specs.Types.{Ty, scalar, string, recordOf, variantOf, listOf, tupleOf, mapOf, flagsOf, enumOf, optionOf, resultOf, fixedOf, facts, Members, ∅, _◂_, Case, bare, holding, Cases, ∎, _▸_}
 
 pub record Reach : Type 0 where
   pub borrow : Bool
 
 abbrev pub noReach : Reach
 noReach = record { borrow = false }
-
-abbrev pub theBorrow : Reach
-theBorrow = record { borrow = true }
 
 -- what either reaches
 unfoldable pub joinReach : Reach → Reach → Reach
@@ -31,7 +27,7 @@ goodReach w = leb w 1
 
 unfoldable mutual
   pub reach : Ty → Reach
-  reach (scalar s) = cond (facts s .borrow) theBorrow noReach
+  reach (scalar s) = record { borrow = facts s .borrow }
   reach string = noReach
   reach (recordOf ts) = memberReach ts
   reach (variantOf cs) = caseReach cs

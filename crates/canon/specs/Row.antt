@@ -1,12 +1,11 @@
 -- A table's row: the sixteen words that a type gives, their good form, and what a question takes from them (01, "Row").
 use mathlib.Core.Bool.{Bool, true, cond, _||_, _&&_}
 use mathlib.Core.List.{List, [], _∷_, _++_}
-use mathlib.Core.Option.{Option, none, some}
+use mathlib.Core.Option.{Option, none, some, Option·getD}
 use Prim.Native.Nat.{ℕ, _/_, _%_, _^_}
 use lib.Dec.{leb, eqb}
 use lib.ListN.{getD}
-use Rattle.canon.specs.Types.{Ty, scalar, string, recordOf, variantOf, listOf, tupleOf, mapOf, flagsOf, enumOf, optionOf, resultOf, fixedOf}
-use Rattle.canon.specs.Types.{Core, count, kRecord, kVariant, kList, kTuple, kMap, kFlags, kEnum, kOption, kResult, kFixed, kindWord}
+use Rattle.canon.specs.Types.{Ty, scalar, string, recordOf, variantOf, listOf, tupleOf, mapOf, flagsOf, enumOf, optionOf, resultOf, fixedOf, Core, count, kRecord, kVariant, kList, kTuple, kMap, kFlags, kEnum, kOption, kResult, kFixed, kindWord}
 use Rattle.canon.specs.Layout.{Memory, Both, both, within, Layout, layout, payload, payloads, starts, recordLayout, discriminant, payloadOffset}
 use Rattle.canon.specs.Flat.{flatten, flatCount}
 use Rattle.canon.specs.Reach.{Reach, reach, reachWord, wordReach, goodReach}
@@ -30,8 +29,7 @@ rowKind (fixedOf t n) = kindWord kFixed
 
 -- word 5: "flat count, 255 for none"
 abbrev pub countWord : Option ℕ → ℕ
-countWord none = 255
-countWord (some n) = n
+countWord c = Option·getD c 255
 
 abbrev pub countOf : ℕ → Option ℕ
 countOf w = cond (eqb w 255) none (some w)
@@ -86,22 +84,11 @@ inner m (fixedOf t n) = noInner
 abbrev pub rowWords : ℕ → Both Layout → Both Packed → Both Inner → Reach → List ℕ
 rowWords kind layouts flats inners reached =
     kind
-    ∷ layouts .in32 .size
-    ∷ layouts .in32 .align
-    ∷ layouts .in64 .size
-    ∷ layouts .in64 .align
-    ∷ flats .in32 .number
-    ∷ flats .in32 .types
-    ∷ flats .in64 .types
-    ∷ inners .in32 .disc
-    ∷ inners .in32 .offset
-    ∷ inners .in64 .offset
-    ∷ inners .in32 .entry .size
-    ∷ inners .in32 .entry .align
-    ∷ inners .in64 .entry .size
-    ∷ inners .in64 .entry .align
-    ∷ reachWord reached
-    ∷ []
+    ∷ layouts .in32 .size ∷ layouts .in32 .align ∷ layouts .in64 .size ∷ layouts .in64 .align
+    ∷ flats .in32 .number ∷ flats .in32 .types ∷ flats .in64 .types
+    ∷ inners .in32 .disc ∷ inners .in32 .offset ∷ inners .in64 .offset
+    ∷ inners .in32 .entry .size ∷ inners .in32 .entry .align ∷ inners .in64 .entry .size ∷ inners .in64 .entry .align
+    ∷ reachWord reached ∷ []
 
 unfoldable pub rowOf : Ty → List ℕ
 rowOf t = rowWords (rowKind t) (both (λ m. layout m t)) (both (λ m. typeFlat m t)) (both (λ m. inner m t)) (reach t)
@@ -111,17 +98,18 @@ pub record Abi : Type 0 where
   pub layouts : Both Layout
   pub flats : Option ℕ
 
-abbrev pub abiOf : Ty → Abi
-abiOf t = record { layouts = both (λ m. layout m t); flats = flatCount t }
-
 -- what a question takes from a type. 01: "the five numbers of `CanonicalAbiInfo`, flat words and borrow"
 pub record Info : Type 0 where
   pub abi : Abi
   pub flatWords : Both ℕ
   pub reach : Reach
 
+abbrev pub infoLayout : Memory → Info → Layout
+infoLayout m i = within m (i .abi .layouts)
+
 abbrev pub infoOf : Ty → Info
-infoOf t = record { abi = abiOf t; flatWords = both (λ m. typeFlat m t .types); reach = reach t }
+infoOf t =
+    record { abi = record { layouts = both (λ m. layout m t); flats = flatCount t }; flatWords = both (λ m. typeFlat m t .types); reach = reach t }
 
 abbrev pub word : List ℕ → ℕ → ℕ
 word r k = getD r k 0
@@ -155,14 +143,9 @@ unfoldable pub goodCount : Option ℕ → Bool
 goodCount none = true
 goodCount (some n) = leb n 16
 
--- how many core types the flat words hold
-abbrev pub used : Option ℕ → ℕ
-used none = 0
-used (some n) = n
-
 -- "unused flat bits are zero"
 unfoldable pub unusedZero : Option ℕ → ℕ → Bool
-unusedZero c w = eqb (w / 4 ^ used c) 0
+unusedZero c w = eqb (w / 4 ^ Option·getD c 0) 0
 
 -- of an info: "A bad info breaks the row's rules for words 1 to 5"
 unfoldable pub goodAbi : Abi → Bool

@@ -88,13 +88,4 @@ pub data Kind : Type 0 where
   kRecord kVariant kList kTuple kMap kFlags kEnum kOption kResult kFixed : Kind
 
 abbrev pub kindWord : Kind → ℕ
-kindWord kRecord = 1
-kindWord kVariant = 2
-kindWord kList = 3
-kindWord kTuple = 4
-kindWord kMap = 5
-kindWord kFlags = 6
-kindWord kEnum = 7
-kindWord kOption = 8
-kindWord kResult = 9
-kindWord kFixed = 10
+kindWord = elim [ kRecord ↦ 1 | kVariant ↦ 2 | kList ↦ 3 | kTuple ↦ 4 | kMap ↦ 5 | kFlags ↦ 6 | kEnum ↦ 7 | kOption ↦ 8 | kResult ↦ 9 | kFixed ↦ 10 ]

@@ -1,21 +1,21 @@
--- A signature's list in one memory, from the infos of its types (canon's `flatAll`), a maximum, and a pointer behind.
+-- A signature's list in one memory, from the infos of its types (canon's `flatAll`), and a pointer behind.
 use mathlib.Core.Path.{_≡_, refl, sym, ap, ap₂, _∙_}
 use mathlib.Core.Bool.{true}
 use mathlib.Core.List.{List, [], _∷_, _++_}
 use mathlib.Core.Option.{Option, none, some}
-use Prim.Native.Nat.{ℕ, _+_, _≤_, _<_}
+use Prim.Native.Nat.{_+_, _≤_}
 use native.Mathlib.Decide.{decLe}
 use native.Mathlib.Omega.{arith}
 use lib.ListN.{length, length-append}
-use borrow.Author.Tests.{le-leb, lt-leb}
+use borrow.Author.Tests.{lt-leb}
 use Rattle.canon.specs.Answer.{lift, lift2}
 use Rattle.canon.specs.Layout.{Memory, mem32, mem64, within}
 use Rattle.canon.specs.Flat.{ptrType}
 use Rattle.canon.specs.Pack.{Packed, code, pack, unpack}
 use Rattle.canon.specs.Row.{Info, countOf, goodCount, unusedZero, flatOf}
-use Rattle.canon.specs.Signature.{flatAll, listed, inMemory, atMost}
+use Rattle.canon.specs.Signature.{flatAll}
 use Rattle.canon.specs.Types.{Core}
-use Rattle.canon.proofs.Packing.{unpack-pack, length-unpack}
+use Rattle.canon.proofs.Packing.{length-unpack}
 use Rattle.canon.proofs.FlatFolds.{flatAll-more}
 use Rattle.flat_types.specs.Lists.{unpacked, packedTo, packed}
 use Rattle.flat_types.specs.Places.{appendTo}
@@ -51,33 +51,6 @@ pub flat-more :
     (m : Memory) (is′ : List Info) (i : Info) →
     appendTo 16 (packed (flatAll m is′)) (packed (flatOf m i)) ≡ packed (flatAll m (is′ ++ i ∷ []))
 flat-more m is′ i = append-packed (flatAll m is′) (flatOf m i) ∙ ap packed (sym (flatAll-more m is′ i))
-
--- The words against a maximum: 255 is above it
-
-module _ (max : ℕ) (p : Packed) (small : max ≤ 16) where
-  pub within-maximum : (o : Option (List Core)) → p ≡ packed o → p .number ≤ max → atMost max o ≡ listed (unpack (p .number) (p .types))
-  unfolding packedTo atMost
-  within-maximum none e h = let f : p .number ≡ 255 = rw e in absurd (omega arith)
-  within-maximum (some l) e h =
-      elim (decLe (length l) 16) [
-        | no i ↦ let f : p .number ≡ 255 = rw (e, packed-none 16 l (omega arith)) in absurd (omega arith)
-        | yes i ↦
-            let f : p ≡ record { number = length l; types = pack l } = e ∙ packed-some 16 l i in
-            let n : length l ≤ max = rw f at h in
-            rw (f, le-leb (length l) max n, unpack-pack l)
-      ]
-
-  pub past-maximum : (o : Option (List Core)) → p ≡ packed o → max < p .number → atMost max o ≡ inMemory
-  unfolding packedTo atMost
-  past-maximum none e h = refl
-  past-maximum (some l) e h =
-      elim (decLe (length l) 16) [
-        | no i ↦ rw (lt-leb (length l) max (omega arith))
-        | yes i ↦
-            let f : p ≡ record { number = length l; types = pack l } = e ∙ packed-some 16 l i in
-            let n : max < length l = rw f at h in
-            rw (lt-leb (length l) max n)
-      ]
 
 -- A pointer behind a list of at most 16
 

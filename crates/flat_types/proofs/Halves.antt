@@ -9,7 +9,7 @@ use Rattle.canon.specs.Layout.{Memory, mem32, mem64, both, within}
 use Rattle.canon.specs.Pack.{pack, unpack}
 use Rattle.flat_types.specs.Lists.{halves, whole}
 use Rattle.flat_types.specs.Places.{twice, appendWord}
-use Rattle.flat_types.proofs.Masks.{masked, mask-fits, places-fit, behind, moved-fits}
+use Rattle.flat_types.proofs.Masks.{masked, mask-fits, places-fit, or-sum, moved-fits}
 
 pub whole-halves : (w : ℕ) → whole (halves w) ≡ w
 whole-halves w = div-add-mod' w (2 ^ 32)
@@ -56,4 +56,4 @@ append-both m n a b h p q =
     let fits : (i : Memory) → b i * 4 ^ m < 2 ^ 32 = λ i. moved-fits m n 16 (b i) (q i) h in
     rw (whole-mul b (4 ^ m), mod-eq-of-lt (whole-fits (λ i. b i * 4 ^ m) (fits mem32) (fits mem64)))
     (or-block 32 (a mem64) (b mem64 * 4 ^ m) (a mem32) (b mem32 * 4 ^ m) (places-fit m (a mem32) (omega arith) (p mem32)) (fits mem32)
-    ∙ whole-same _ (λ i. a i + b i * 4 ^ m) (λ i. behind m (a i) (b i) (p i)))
+    ∙ whole-same _ (λ i. a i + b i * 4 ^ m) (λ i. or-sum m (a i) (b i) (p i)))

@@ -2,7 +2,7 @@
 use mathlib.Core.Path.{_≡_, refl, sym, ap, _∙_}
 use mathlib.Core.Bool.{Bool, true, false, cond, _&&_}
 use mathlib.Core.List.{List, [], _∷_, _++_}
-use mathlib.Core.Option.{Option, none, some}
+use mathlib.Core.Option.{Option, none, some, Option·getD}
 use Prim.Native.Nat.{ℕ, zero, suc, _+_, _*_, _/_, _^_, _≤_, _<_, max}
 use native.Mathlib.Nat.{div-one, div-add-mod'}
 use native.Mathlib.Omega.{arith}
@@ -14,7 +14,7 @@ use Rattle.canon.specs.Answer.{lift}
 use Rattle.canon.specs.Layout.{Memory, mem32, mem64, both, within}
 use Rattle.canon.specs.Flat.{copies, flagsFlat}
 use Rattle.canon.specs.Pack.{Packed, pack, unpack}
-use Rattle.canon.specs.Row.{used, countOf, goodCount, unusedZero}
+use Rattle.canon.specs.Row.{countOf, goodCount, unusedZero}
 use Rattle.canon.specs.Types.{Core, I32}
 use Rattle.canon.proofs.Packing.{pack-lt, pack-append, unpack-pack, length-unpack}
 use Rattle.canon.proofs.FlatFolds.{length-copies, Counted}
@@ -112,12 +112,12 @@ flags-some (suc n) h = refl
 
 -- The good form of a row's words
 
-good-count : (o : Option ℕ) → used o ≤ 16 → goodCount o ≡ true
+good-count : (o : Option ℕ) → Option·getD o 0 ≤ 16 → goodCount o ≡ true
 unfolding goodCount
 good-count none h = refl
 good-count (some n) h = le-leb n 16 h
 
-bad-count : (o : Option ℕ) → 16 < used o → goodCount o ≡ false
+bad-count : (o : Option ℕ) → 16 < Option·getD o 0 → goodCount o ≡ false
 unfolding goodCount
 bad-count none h = absurd (omega arith)
 bad-count (some n) h = lt-leb n 16 h
@@ -127,7 +127,7 @@ either-zero : (a b : ℕ) → eqb (bitOr a b) 0 ≡ eqb a 0 && eqb b 0
 either-zero zero b = rw (or-zero-l b)
 either-zero (suc a) b = rw (ne-eqb (bitOr (suc a) b) 0 (λ e. omega (arith, or-add-and (suc a) b, and-le-r (suc a) b)), ne-eqb (suc a) 0 (λ e. omega arith))
 
-module _ (f : FlatTypes) (n : ℕ) (e : n ≡ used (countOf (f .count))) where
+module _ (f : FlatTypes) (n : ℕ) (e : n ≡ Option·getD (countOf (f .count)) 0) where
   pub bad-flat : 16 < n → false ≡ goodFlat f
   unfolding goodFlat
   bad-flat h = rw (bad-count (countOf (f .count)) (omega arith))
@@ -173,7 +173,7 @@ module _ (p : Packed) (g : goodCount (countOf (p .number)) ≡ true) where
   unfolding unusedZero goodCount packedTo
   good-words u = go (eqb (p .number) 255) refl g u
     where
-      go : (b : Bool) → eqb (p .number) 255 ≡ b → goodCount (cond b none (some (p .number))) ≡ true → eqb (p .types / 4 ^ used (cond b none (some (p .number)))) 0 ≡ true → p ≡ packed (unpacked p)
+      go : (b : Bool) → eqb (p .number) 255 ≡ b → goodCount (cond b none (some (p .number))) ≡ true → eqb (p .types / 4 ^ Option·getD (cond b none (some (p .number))) 0) 0 ≡ true → p ≡ packed (unpacked p)
       go true e h u =
           let n = eqb-true (p .number) 255 e in
           let w : p .types ≡ 0 = sym (div-one (p .types)) ∙ eqb-true (p .types / 1) 0 u in

@@ -57,8 +57,8 @@ pub doubled-fits : (x y : ℕ) → y < 2 ^ 63 → bitAnd x y * 2 < 2 ^ 64
 doubled-fits x y h = omega (arith, and-le-r x y)
 
 -- one list behind the places of another: no bit is met twice
-pub behind : (n a b : ℕ) → a < 4 ^ n → bitOr a (b * 4 ^ n) ≡ a + b * 4 ^ n
-behind n a b h = rw (← pow4 n) (or-shifted-r b (n * 2) a (rw (← pow4 n) at h) ∙ add-comm (b * 2 ^ (n * 2)) a)
+pub or-sum : (n a b : ℕ) → a < 4 ^ n → bitOr a (b * 4 ^ n) ≡ a + b * 4 ^ n
+or-sum n a b h = rw (← pow4 n) (or-shifted-r b (n * 2) a (rw (← pow4 n) at h) ∙ add-comm (b * 2 ^ (n * 2)) a)
 
 -- and none is lost
 pub moved-fits : (m n k b : ℕ) → b < 4 ^ n → m + n ≤ k → b * 4 ^ m < 4 ^ k
@@ -70,4 +70,4 @@ moved-fits m n k b hb h =
 pub append-word : (m n a b : ℕ) → a < 4 ^ m → b < 4 ^ n → m + n ≤ 32 → appendWord m a b ≡ a + b * 4 ^ m
 append-word m n a b ha hb h =
     let fits : b * 4 ^ m < 2 ^ 64 = moved-fits m n 32 b hb h in
-    rw (mod-eq-of-lt fits) (behind m a b ha)
+    rw (mod-eq-of-lt fits) (or-sum m a b ha)

@@ -1,12 +1,12 @@
-// A type's flat types in both memories: one count, and the words of both, the 32-bit memory's in the low half.
+// A type's flat types in both memories have one count, and one number holds both words, the 32-bit memory's in its low half.
 // A count above 16 says that there is no list; 255 is written for it, as in a row.
 ghost use mathlib.Core.Path.{_≡_};
-ghost use mathlib.Core.Option.{some};
+ghost use mathlib.Core.Option.{some, Option·getD};
 ghost use lib.ListN.{getElem?};
 ghost use Rattle.canon.specs.Answer.{lift};
 ghost use Rattle.canon.specs.Types as trees;
 ghost use Rattle.canon.specs.Flat.{copies, flagsFlat, flatten};
-ghost use Rattle.canon.specs.Row.{countOf, used};
+ghost use Rattle.canon.specs.Row.{countOf};
 ghost use Rattle.types.specs.Means.{memoryOf};
 ghost use Rattle.flat_types.specs.Lists.{halves, whole, bothWords, wordsIn, flatIn, Holds, words, goodFlat};
 ghost use Rattle.flat_types.specs.Places.{oneI32, appendTo, joined};
@@ -26,12 +26,12 @@ pub struct FlatTypes {
     pub words: u64,
 }
 
-// The types of the references 0 to 17, two bits each: 7, 8 I64, 9 F32, 10 F64. The place of String, which is no scalar, is not read.
+// Holds the types of the references 0 to 17, two bits each: 7, 8 I64, 9 F32, 10 F64. The place of String, which is no scalar, is not read.
 const SCALARS: u64 = 0x39_4000;
 
-// How many types the words of a row hold.
+// Answers how many types the words of a row hold.
 fn types_of(count: u32) -> u32
-    ensures { λ r. ⌜ r ≡ used (countOf count) ⌝ }
+    ensures { λ r. ⌜ r ≡ Option·getD (countOf count) 0 ⌝ }
 {
     if count == 255 { 0 } else { count }
 }
@@ -44,16 +44,16 @@ impl FlatTypes {
         words: 0,
     };
 
-    // An enum's list, and a variant's discriminant.
+    // An enum has this list, and a variant's discriminant too.
     pub const I32: FlatTypes = FlatTypes { count: 1, words: 0 };
 
-    // The list of a string, a list or a map: I32 twice (0), and I64 twice (5).
+    // A string, a list and a map have this list: I32 twice (0), and I64 twice (5).
     pub const POINTER_PAIR: FlatTypes = FlatTypes {
         count: 2,
         words: 0x5_0000_0000,
     };
 
-    // Of words 5 to 7 of a row.
+    // Takes words 5 to 7 of a row.
     pub fn of(count: u32, word32: u32, word64: u32) -> FlatTypes
         ensures { λ r. ⌜ bothWords r ≡ record { number = count; types = whole (record { in32 = word32; in64 = word64 }) } ⌝ }
     {
@@ -77,7 +77,7 @@ impl FlatTypes {
         word as u32
     }
 
-    // The list of a reference without a definition; none for every other word.
+    // Gives the list of a reference without a definition, none for every other word.
     pub fn plain(reference: u32) -> FlatTypes
         ensures { λ r. ⌜ Holds r (λ m. lift (flatten m) (getElem? trees.plain reference)) ⌝ }
     {
@@ -94,7 +94,7 @@ impl FlatTypes {
         }
     }
 
-    // The list of so many flags: nothing for none.
+    // Gives the list of so many flags; no flags have no types.
     pub fn flags(count: u32) -> FlatTypes
         ensures { λ r. ⌜ Holds r (λ m. some (flagsFlat count)) ⌝ }
     {
@@ -105,7 +105,7 @@ impl FlatTypes {
         }
     }
 
-    // The words of both memories as one word.
+    // Puts the words of both memories into one.
     fn list(self) -> FlatList
         ensures { λ r. ⌜ words r ≡ bothWords self ⌝ }
     {
@@ -115,7 +115,7 @@ impl FlatTypes {
         }
     }
 
-    // A record's step: the types of one more member behind those so far, in both memories by one shift.
+    // Takes a record's step: the types of one more member go behind those so far, in both memories by one shift.
     pub fn append(self, next: FlatTypes) -> FlatTypes
         ensures { λ r. ⌜ bothWords r ≡ appendTo 16 (bothWords self) (bothWords next) ⌝ }
     {
@@ -126,7 +126,7 @@ impl FlatTypes {
         }
     }
 
-    // A variant's step: the types of one more payload joined to those so far.
+    // Takes a variant's step: the types of one more payload are joined to those so far.
     pub fn join(self, next: FlatTypes) -> FlatTypes
         ensures { λ r. ⌜ bothWords r ≡ joined (bothWords self) (bothWords next) ⌝ }
     {
@@ -141,14 +141,14 @@ impl FlatTypes {
         FlatTypes { count, words }
     }
 
-    // A variant's list, of its joined payloads.
+    // Makes a variant's list of its joined payloads.
     pub fn with_discriminant(self) -> FlatTypes
         ensures { λ r. ⌜ bothWords r ≡ appendTo 16 oneI32 (bothWords self) ⌝ }
     {
         FlatTypes::I32.append(self)
     }
 
-    // A fixed list's list: the element's, n times.
+    // Repeats the element's list n times for a fixed list.
     pub fn repeat(self, n: u32) -> FlatTypes
         ensures { λ r. ⌜ Holds r (λ m. lift (copies n) (flatIn m self)) ⌝ }
     {
@@ -165,7 +165,7 @@ impl FlatTypes {
         FlatTypes { count, words }
     }
 
-    // Whether a row may hold these three words.
+    // Tells whether a row may hold these three words.
     pub fn is_good(self) -> bool
         ensures { λ r. ⌜ r ≡ goodFlat self ⌝ }
     {
@@ -177,7 +177,7 @@ impl FlatTypes {
         unused_zero(count, either)
     }
 
-    // The count and the word of one memory alone.
+    // Gives the count and the word of one memory alone.
     pub fn in_memory(self, memory: Memory) -> FlatList
         ensures { λ r. ⌜ words r ≡ wordsIn (memoryOf memory) self ⌝ }
     {

@@ -1,4 +1,4 @@
-// A flat list in one memory: at most 16 types, or 17 where a pointer was put behind them, in 34 bits.
+// A flat list in one memory has at most 16 types, or 17 where a pointer was put behind them, in 34 bits.
 // A count above 16 is read as no list; 255 is written for it.
 ghost use mathlib.Core.Path.{_≡_};
 ghost use Prim.Native.Nat.{_≤_};
@@ -15,7 +15,7 @@ pub struct FlatList {
     pub types: u64,
 }
 
-// The code of a pointer's type.
+// Gives the code of a pointer's type.
 fn pointer_code(memory: Memory) -> u64
     ensures { λ r. ⌜ r ≡ code (ptrType (memoryOf memory)) ⌝ }
 {
@@ -33,7 +33,7 @@ impl FlatList {
         types: 0,
     };
 
-    // One list behind another; more than max types are none. Nothing is masked: the lists of good rows have no unused bits.
+    // Puts one list behind another; more than max types are none. Nothing is masked: the lists of good rows have no unused bits.
     pub(crate) fn append_to(self, max: u32, next: FlatList) -> FlatList
         requires { ⌜ max ≤ 17 ⌝ }
         ensures { λ r. ⌜ words r ≡ appendTo max (words self) (words next) ⌝ }
@@ -49,14 +49,14 @@ impl FlatList {
         FlatList { count, types }
     }
 
-    // One list behind another.
+    // Puts one list behind another.
     pub fn append(self, next: FlatList) -> FlatList
         ensures { λ r. ⌜ words r ≡ appendTo 16 (words self) (words next) ⌝ }
     {
         self.append_to(MAX_FLAT_TYPES, next)
     }
 
-    // The list and a pointer behind it.
+    // Puts a pointer behind the list.
     pub fn with_pointer(self, memory: Memory) -> FlatList
         ensures { λ r. ⌜ words r ≡ appendTo 17 (words self) (record { number = 1; types = code (ptrType (memoryOf memory)) }) ⌝ }
     {

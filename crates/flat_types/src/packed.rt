@@ -1,4 +1,4 @@
-// Packed types as a number: of one list, or of both memories' lists, one in each half of 64 bits.
+// Works on packed types as a number: of one list, or of both memories' lists, one in each half of 64 bits.
 ghost use mathlib.Core.Path.{_≡_};
 ghost use Prim.Native.Nat.{_/_, _^_, _≤_};
 ghost use lib.Dec.{eqb};
@@ -6,13 +6,13 @@ ghost use Rattle.canon.specs.Layout.{both, within};
 ghost use Rattle.canon.specs.Pack.{pack, unpack};
 ghost use Rattle.flat_types.specs.Lists.{halves, whole};
 
-// The value of the high half's first bit.
+// Is the value of the high half's first bit.
 pub(crate) const HALF: u64 = 0x1_0000_0000;
 
-// A one in each half: a product with it puts one memory's word into both.
+// Has a one in each half: a product with it puts one memory's word into both.
 pub(crate) const BOTH: u64 = 0x1_0000_0001;
 
-// The first types of a word, the bits above them cleared.
+// Keeps the first types of a word and clears the bits above them.
 pub(crate) fn used(count: u32, word: u64) -> u64
     requires { ⌜ count ≤ 16 ⌝ }
     ensures { λ r. ⌜ r ≡ pack (unpack count word) ⌝ }
@@ -21,7 +21,7 @@ pub(crate) fn used(count: u32, word: u64) -> u64
     word & ones
 }
 
-// The same in each half.
+// Does the same in each half.
 pub(crate) fn used_both(count: u32, words: u64) -> u64
     requires { ⌜ count ≤ 16 ⌝ }
     ensures { λ r. ⌜ r ≡ whole (both (λ m. pack (unpack count (within m (halves words))))) ⌝ }
@@ -30,7 +30,7 @@ pub(crate) fn used_both(count: u32, words: u64) -> u64
     words & (ones * BOTH)
 }
 
-// Whether nothing lies above the first types of a word.
+// Tells whether nothing lies above the first types of a word.
 pub(crate) fn unused_zero(count: u32, word: u32) -> bool
     requires { ⌜ count ≤ 16 ⌝ }
     ensures { λ r. ⌜ r ≡ eqb (word / 4 ^ count) 0 ⌝ }

@@ -1,4 +1,4 @@
-// Copies of both memories' lists by one multiplication.
+// Copies both memories' lists by one multiplication.
 ghost use mathlib.Core.Path.{_≡_};
 ghost use Prim.Native.Nat.{_*_, _/_, _^_, _≤_};
 ghost use Rattle.canon.specs.Flat.{copies};
@@ -8,7 +8,7 @@ ghost use Rattle.flat_types.specs.Lists.{halves, whole};
 ghost use Rattle.flat_types.specs.Places.{ones};
 use crate::packed::used_both;
 
-// A one at the first place of each copy, for as many copies as 16 types hold: every 2nd bit, every 4th, every 6th ..
+// Has a one at the first place of each copy, for as many copies as 16 types hold: every 2nd bit, every 4th, every 6th ..
 fn every(count: u32) -> u64
     requires { ⌜ count ≤ 16 ⌝ }
     ensures { λ r. ⌜ r ≡ ones (16 / count) (4 ^ count) ⌝ }
@@ -27,7 +27,7 @@ fn every(count: u32) -> u64
     }
 }
 
-// The first n copies of as many as 16 types hold.
+// Keeps the first n copies of as many as 16 types hold.
 pub(crate) fn repeat_words(m: u32, words: u64, n: u32) -> u64
     requires { ⌜ (m ≤ 16) × (m * n ≤ 16) ⌝ }
     ensures { λ r. ⌜ r ≡ whole (both (λ i. pack (copies n (unpack m (within i (halves words)))))) ⌝ }

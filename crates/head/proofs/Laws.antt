@@ -11,12 +11,12 @@ use lib.ListN.{length, getD, take, drop, length-drop}
 use lib.Seq.{take-nil, take-take, drop-drop, length-take-le}
 use borrow.Author.Tests.{ltb-false}
 use Rattle.canon.specs.Answer.{is, no as refuses, truncated}
-use Rattle.canon.specs.Description.{kindOf}
+use Rattle.canon.specs.Description.{kindOf, Shape, counted, fixed, shapeOf, bodyLength, referencesOf}
 use Rattle.canon.specs.Types.{Kind}
 use Rattle.canon.proofs.Tests.{impossible}
-use Rattle.canon.specs.Description.{Shape, counted, fixed, shapeOf, bodyLength, referencesOf}
 use Rattle.head.specs.Heads.{Heading, before, many, heading, bodyAt, headKind, headAt, between, Spans}
-use Rattle.head.proofs.Sizes.{body-parts, body-some}
+use Rattle.canon.proofs.Bodies.{body-some}
+use Rattle.head.proofs.Sizes.{body-parts}
 
 -- a heading that is given is that of some kind's body after the kind word, and the body is there
 pub record Headed (ws : List ℕ) (at : ℕ) (h : Heading) : Type 0 where

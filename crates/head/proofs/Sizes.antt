@@ -1,4 +1,4 @@
--- The packed shapes are the ten kinds' own, and a body has a word at least: those before its references, the references and the numbers.
+-- The packed shapes are the ten kinds' own, and a body has the words before its references, the references and the numbers.
 use mathlib.Core.Path.{_≡_, refl}
 use mathlib.Core.Bool.{true}
 use Prim.Native.Nat.{ℕ, _+_, _-_, _*_, _/_, _%_, _^_, _<_, _≤_}
@@ -7,6 +7,7 @@ use lib.Dec.{ltb}
 use borrow.Author.Tests.{lt-ltb}
 use Rattle.canon.specs.Types.{kindWord}
 use Rattle.canon.specs.Description.{Shape, counted, fixed, shapeOf, bodyLength}
+use Rattle.canon.proofs.Bodies.{body-some}
 use Rattle.head.specs.Heads.{before, many, behind}
 use Rattle.canon.specs.Types.{Kind, kRecord, kVariant, kList, kTuple, kMap, kFlags, kEnum, kOption, kResult, kFixed}
 
@@ -68,15 +69,6 @@ end-back s n from = omega (arith, body-parts s n)
 pub before-small : (s : Shape) → before s ≤ 1
 before-small counted = omega arith
 before-small (fixed r k) = omega arith
-
-pub body-some : (k : Kind) (n : ℕ) → 1 ≤ bodyLength (shapeOf k) n
-body-some k n =
-    omega (
-      arith,
-      with-counted (shapeOf k) n,
-      each-kind (λ k. 1 ≤ bodyLength (shapeOf k) 0)
-          (omega arith) (omega arith) (omega arith) (omega arith) (omega arith) (omega arith) (omega arith) (omega arith) (omega arith) (omega arith) k,
-    )
 
 -- where no word is left, a body is cut off
 pub nothing-left : (k : Kind) (n left : ℕ) → left < 1 → ltb left (bodyLength (shapeOf k) n) ≡ true

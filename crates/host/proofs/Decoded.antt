@@ -11,12 +11,11 @@ use borrow.Author.Tests.{eq-eqb, ne-eqb}
 use Rattle.canon.specs.Description.{tableAfter}
 use Rattle.canon.specs.Layout.{Memory}
 use Rattle.canon.specs.Signature.{flattenAnswer, asyncStartAnswer, asyncReturnAnswer}
-use Rattle.canon.specs.Question.{borrowAnswer, offsetsAfter}
-use Rattle.canon.proofs.Capped.{type-first, size-align-first, ask-first, askTwo-first, table-after-first, offsets-first}
+use Rattle.canon.specs.Question.{borrowAnswer, placementAnswer, offsetsAfter}
+use Rattle.canon.proofs.Capped.{ask-first, askTwo-first, table-after-first, placement-first, offsets-first}
 use Rattle.words.specs.Words.{wholeWords, putWords}
 use Rattle.words.proofs.Laws.{length-whole, front-read, put-rest}
 use Rattle.host.specs.Questions.{questionNumber}
-use Rattle.host.specs.Numbers.{memoryAt}
 use Rattle.host.specs.declared.question.Question.{Question}
 use Rattle.host.specs.declared.question.Question.the-variants as question
 
@@ -44,8 +43,6 @@ pub question-first :
     (q : Question) (t : List ℕ) (n : ℕ) (vs ws : List ℕ) →
     questionNumber q (take 16384 t) n (take 16385 vs) (take 16385 ws) ≡ questionNumber q t n vs ws
 unfolding flattenAnswer asyncStartAnswer asyncReturnAnswer borrowAnswer
-question-first (question.Type w k) t n vs ws = rw (type-first t n w)
-question-first (question.SizeAlign m w) t n vs ws = rw (size-align-first (memoryAt m) t n w)
 question-first (question.Flatten m max) t n vs ws = rw (ask-first t n)
 question-first (question.Lowering m a) t n vs ws = rw (ask-first t n)
 question-first (question.Lifting m a) t n vs ws = rw (ask-first t n)
@@ -53,33 +50,52 @@ question-first (question.AsyncStart m a l k) t n vs ws = rw (askTwo-first t n)
 question-first (question.AsyncReturn m a l b k) t n vs ws = rw (empty-first ws, askTwo-first t n)
 question-first question.ContainsBorrow t n vs ws = rw (ask-first t n)
 
--- the first words of a buffer put back, as though all had been
-put-first :
-    (x b : List ℕ) → ((i : ℕ) → getD b i 0 < 256) → length x ≡ min 16384 (length b / 4) →
-    putWords 0 (take (length b / 4) x) b ≡ putWords 0 (x ++ drop 16384 (wholeWords b)) b
-put-first x b bytes l =
+-- and where the table alone is cut
+
+cut-twice : (t : List ℕ) → take 16384 (take 16384 t) ≡ take 16384 t
+cut-twice t = take-all 16384 (take 16384 t) (omega (arith, length-take 16384 t))
+
+pub question-cut : (q : Question) (t : List ℕ) (n : ℕ) (vs ws : List ℕ) → questionNumber q (take 16384 t) n vs ws ≡ questionNumber q t n vs ws
+question-cut q t n vs ws =
+    sym (question-first q (take 16384 t) n vs ws)
+    ∙ ap (λ (u : List ℕ). questionNumber q u n (take 16385 vs) (take 16385 ws)) (cut-twice t)
+    ∙ question-first q t n vs ws
+
+pub placement-cut : (m : Memory) (t : List ℕ) (n : ℕ) (ws : List ℕ) (room : ℕ) → placementAnswer m (take 16384 t) n ws room ≡ placementAnswer m t n ws room
+placement-cut m t n ws room =
+    sym (placement-first m (take 16384 t) n ws room)
+    ∙ ap (λ (u : List ℕ). placementAnswer m u n (take 16385 ws) (min 16384 room)) (cut-twice t)
+    ∙ placement-first m t n ws room
+
+pub offsets-cut : (m : Memory) (t : List ℕ) (n : ℕ) (ws out : List ℕ) → offsetsAfter m (take 16384 t) n ws out ≡ offsetsAfter m t n ws out
+offsets-cut m t n ws out =
+    sym (offsets-first m (take 16384 t) n ws out)
+    ∙ ap (λ (u : List ℕ). offsetsAfter m u n (take 16385 ws) (take 16384 out) ++ drop 16384 out) (cut-twice t)
+    ∙ offsets-first m t n ws out
+
+-- the first words of a table or a buffer became x: put back, they leave what the rest, put back as it was, would have left
+pub front-put :
+    (c : ℕ) (x b : List ℕ) {y : List ℕ} → ((i : ℕ) → getD b i 0 < 256) → length x ≡ length (take c (wholeWords b)) → x ++ drop c (wholeWords b) ≡ y →
+    putWords 0 (take (length b / 4) x) b ≡ putWords 0 y b
+front-put c x b bytes l e =
+    let n : length x ≡ min c (length b / 4) = l ∙ length-take c (wholeWords b) ∙ ap (min c) (length-whole b) in
     rw (take-all (length b / 4) x (omega arith))
-    (sym (put-rest x b bytes (omega arith)) ∙ ap (λ (y : List ℕ). putWords 0 (x ++ y) b) rest)
+    (sym (put-rest x b bytes (omega arith)) ∙ ap (λ (u : List ℕ). putWords 0 u b) (ap (λ (u : List ℕ). x ++ u) (rest n) ∙ e))
   where
-    rest : drop (length x) (wholeWords b) ≡ drop 16384 (wholeWords b)
-    rest =
-        elim (decLe 16384 (length b / 4)) [
-          | yes h ↦ let e : length x ≡ 16384 = omega arith in ap (λ (i : ℕ). drop i (wholeWords b)) e
+    rest : length x ≡ min c (length b / 4) → drop (length x) (wholeWords b) ≡ drop c (wholeWords b)
+    rest n =
+        elim (decLe c (length b / 4)) [
+          | yes h ↦ let e : length x ≡ c = omega arith in ap (λ (i : ℕ). drop i (wholeWords b)) e
           | no h ↦
               drop-of-length-le (wholeWords b) {i = length x} (omega (arith, length-whole b))
-              ∙ sym (drop-of-length-le (wholeWords b) {i = 16384} (omega (arith, length-whole b)))
+              ∙ sym (drop-of-length-le (wholeWords b) {i = c} (omega (arith, length-whole b)))
         ]
 
--- a table or a buffer whose first words became x
-
 module _ (x b : List ℕ) (bytes : (i : ℕ) → getD b i 0 < 256) (l : length x ≡ length (take 16384 (wholeWords b))) where
-  first : putWords 0 (take (length b / 4) x) b ≡ putWords 0 (x ++ drop 16384 (wholeWords b)) b
-  first = put-first x b bytes (l ∙ length-take 16384 (wholeWords b) ∙ ap (min 16384) (length-whole b))
-
   pub table-put : (ws : List ℕ) → x ≡ tableAfter ws (take 16384 (wholeWords b)) → putWords 0 (take (length b / 4) x) b ≡ putWords 0 (tableAfter ws (wholeWords b)) b
-  table-put ws e = first ∙ ap (λ (y : List ℕ). putWords 0 y b) (ap (λ (y : List ℕ). y ++ drop 16384 (wholeWords b)) e ∙ table-after-first ws (wholeWords b))
+  table-put ws e = front-put 16384 x b bytes l (ap (λ (y : List ℕ). y ++ drop 16384 (wholeWords b)) e ∙ table-after-first ws (wholeWords b))
 
   pub offsets-put :
       (m : Memory) (t : List ℕ) (n : ℕ) (ws : List ℕ) → x ≡ offsetsAfter m (take 16384 t) n (take 16385 ws) (take 16384 (wholeWords b)) →
       putWords 0 (take (length b / 4) x) b ≡ putWords 0 (offsetsAfter m t n ws (wholeWords b)) b
-  offsets-put m t n ws e = first ∙ ap (λ (y : List ℕ). putWords 0 y b) (ap (λ (y : List ℕ). y ++ drop 16384 (wholeWords b)) e ∙ offsets-first m t n ws (wholeWords b))
+  offsets-put m t n ws e = front-put 16384 x b bytes l (ap (λ (y : List ℕ). y ++ drop 16384 (wholeWords b)) e ∙ offsets-first m t n ws (wholeWords b))

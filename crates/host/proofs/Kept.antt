@@ -6,7 +6,6 @@ use contract.Lifetimes.{Lfts}
 use denote.Ref.{RefT, now, at-last}
 use lib.ListN.{length, getD}
 use Rattle.canon.specs.Answer.{Answer, ok, refused, then}
-use Rattle.canon.specs.Layout.{Layout}
 use Rattle.canon.specs.Question.{Placing, placing, placementAnswer, bufferAfter, offsetsAfter}
 use Rattle.canon.proofs.Tests.{impossible}
 use Rattle.words.specs.Words.{wholeWords, putWords}

@@ -5,6 +5,9 @@ pub mod Taken
 pub mod Several
 pub mod Unique
 pub mod Decoded
+pub mod Builds
 pub mod Short
 pub mod Kept
+pub mod Picked
+pub mod ShortLists
 mod Front

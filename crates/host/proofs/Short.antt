@@ -1,9 +1,9 @@
 -- No list among canon's answers has more than 17 types.
 use mathlib.Core.Path.{_≡_, refl}
 use mathlib.Core.Bool.{Bool, true, false, cond, _||_}
-use mathlib.Core.List.{List, [], _∷_, _++_}
+use mathlib.Core.List.{List, [], _∷_}
 use mathlib.Core.Option.{Option, none, some}
-use Prim.Native.Nat.{ℕ, _+_, _≤_, _<_, _^_}
+use Prim.Native.Nat.{ℕ, _≤_}
 use native.Mathlib.Nat.{lt-of-lt-of-le, pow-le-pow-right}
 use native.Mathlib.Omega.{arith}
 use lib.Dec.{leb, ltb, lit≤, eqb}
@@ -12,32 +12,9 @@ use borrow.Author.Tests.{leb-true, ltb-false}
 use Rattle.canon.specs.Answer.{Answer, ok, refused, then, unless, tooLong, badCount, noRoom, badRow}
 use Rattle.canon.specs.Flat.{ptrType}
 use Rattle.canon.specs.Layout.{Memory}
-use Rattle.canon.specs.Pack.{pack}
 use Rattle.canon.specs.Row.{Info}
 use Rattle.canon.specs.Question.{read, infos, tooMany, noTable, ask, askTwo}
-use Rattle.canon.specs.Signature.{
-  Flattened,
-  listed,
-  inMemory,
-  flatAll,
-  atMost,
-  flattenAnswer,
-  Side,
-  loweringMax,
-  liftingMax,
-  paramsMax,
-  loweringAnswer,
-  liftingAnswer,
-  Signature,
-  orPointer,
-  startOf,
-  asyncStartAnswer,
-  behindPointer,
-  listOrNone,
-  returned,
-  returnOf,
-  asyncReturnAnswer,
-}
+use Rattle.canon.specs.Signature.{listed, inMemory, flatAll, atMost, flattenAnswer, Side, liftingMax, paramsMax, startOf, asyncStartAnswer, behindPointer, listOrNone, returned, returnOf, asyncReturnAnswer}
 use Rattle.canon.specs.Types.{Core}
 use Rattle.canon.proofs.Packing.{pack-lt}
 use Rattle.signature.specs.Packs.{packedList, packedFlat, packedFlattened, packedSignature, packedAnswer}

@@ -1,14 +1,14 @@
 -- The flat count of an info is taken as word 5 of a row is: the same numbers are good, and words 1 to 5 of a good row are taken as they stand.
-use mathlib.Core.Path.{_≡_, refl, sym, ap, _∙_}
+use mathlib.Core.Path.{_≡_, refl, ap}
 use mathlib.Core.Bool.{Bool, true, false, cond}
 use mathlib.Core.List.{List}
 use mathlib.Core.Option.{Option, none, some}
 use Prim.Native.Nat.{ℕ, min}
 use native.Mathlib.Decide.{decLe}
 use native.Mathlib.Omega.{arith}
-use lib.Dec.{leb, eqb}
+use lib.Dec.{eqb}
 use borrow.Author.Tests.{le-leb, lt-leb, leb-true}
-use Rattle.canon.specs.Row.{Abi, countOf, rowAbi, word, goodLayout, goodCount, goodAbi, isGood}
+use Rattle.canon.specs.Row.{countOf, rowAbi, word, goodLayout, goodCount, goodAbi, isGood}
 use Rattle.canon.proofs.Tests.{both-true}
 use Rattle.canon.proofs.Questions.{row-tested}
 use Rattle.host.specs.Numbers.{infoFlatAt, abiAt}

@@ -27,7 +27,7 @@ use Rattle.host.proofs.signatures.lampughjata_async_return.Reads as asy
 use Rattle.host.proofs.signatures.lampughjata_contains_borrow.Reads as contains-borrow
 use Rattle.host.proofs.records.lampughjata_record_bytes.Reads as record-bytes
 use Rattle.host.proofs.variants.lampughjata_variant_bytes.Reads as variant-bytes
-use Rattle.host.proofs.table_bytes.lampughjata_build_bytes.Reads as build-bytes
+use Rattle.host.proofs.build_bytes.lampughjata_build_bytes.Reads as build-bytes
 use Rattle.host.proofs.table_bytes.lampughjata_type_bytes.Reads as type-bytes
 use Rattle.host.proofs.table_bytes.lampughjata_size_align_bytes.Reads as size-align-bytes
 use Rattle.host.proofs.table_bytes.lampughjata_placement_bytes.Reads as placement-bytes

@@ -21,8 +21,8 @@ unfoldable pub several : {A : Type 0} → (ℕ → A) → ℕ → ℕ → List A
 several item j zero = []
 several item j (suc n) = item j ∷ several item (suc j) n
 
-abbrev pub infosOf : List ℕ → List Abi
-infosOf w = several (λ j. infoAt w (5 * j)) 0 (length w / 5)
+abbrev pub lentInfos : List ℕ → List Abi
+lentInfos w = several (λ j. infoAt w (5 * j)) 0 (length w / 5)
 
-abbrev pub casesOf : List ℕ → List (Option Abi)
-casesOf w = several (λ j. caseAt w (6 * j)) 0 (length w / 6)
+abbrev pub lentCases : List ℕ → List (Option Abi)
+lentCases w = several (λ j. caseAt w (6 * j)) 0 (length w / 6)

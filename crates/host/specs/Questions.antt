@@ -1,16 +1,14 @@
--- What each question is answered with, by the numbers that its call takes.
+-- What each question on lists is answered with, by the numbers that its call takes.
 use mathlib.Core.List.{List}
 use Prim.Native.Nat.{ℕ}
-use Rattle.canon.specs.Question.{typeAnswer, sizeAlignAnswer, borrowAnswer}
+use Rattle.canon.specs.Question.{borrowAnswer}
 use Rattle.canon.specs.Signature.{flattenAnswer, loweringAnswer, liftingAnswer, asyncStartAnswer, asyncReturnAnswer}
 use Rattle.signature.specs.Packs.{packedFlattened, packedAnswer}
-use Rattle.host.specs.Numbers.{memoryAt, sideAt, answerNumber, yesNumber, chosen, typeWords, layoutNumber, flattenedNumber, signatureLists}
+use Rattle.host.specs.Numbers.{memoryAt, sideAt, answerNumber, yesNumber, chosen, flattenedNumber, signatureLists}
 use Rattle.host.specs.declared.question.Question.{Question}
 use Rattle.host.specs.declared.question.Question.the-variants as question
 
 abbrev pub questionNumber : Question → List ℕ → ℕ → List ℕ → List ℕ → ℕ
-questionNumber (question.Type w k) t n vs ws = answerNumber (λ i. chosen k (typeWords i)) (typeAnswer t n w)
-questionNumber (question.SizeAlign m w) t n vs ws = answerNumber layoutNumber (sizeAlignAnswer (memoryAt m) t n w)
 questionNumber (question.Flatten m max) t n vs ws = answerNumber flattenedNumber (packedFlattened (flattenAnswer (memoryAt m) max t n vs))
 questionNumber (question.Lowering m a) t n vs ws = answerNumber flattenedNumber (packedFlattened (loweringAnswer (sideAt m a) t n vs))
 questionNumber (question.Lifting m a) t n vs ws = answerNumber flattenedNumber (packedFlattened (liftingAnswer (sideAt m a) t n vs))

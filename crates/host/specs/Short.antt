@@ -1,6 +1,6 @@
 -- What a list's number has room for. 01: "at most 17"; proofs/ carries it from canon's answers.
 use mathlib.Core.Option.{Option, none, some}
-use Prim.Native.Nat.{ℕ, _^_, _≤_, _<_}
+use Prim.Native.Nat.{_^_, _≤_, _<_}
 use Rattle.canon.specs.Answer.{Answer, ok, refused}
 use Rattle.canon.specs.Pack.{Packed}
 use Rattle.signature.specs.Packs.{PackedSignature}

@@ -1,8 +1,10 @@
 // The boundary: each call takes numbers and slices, and answers one 64-bit number.
+mod build_bytes;
 mod given;
 mod leaves;
 mod lent;
 mod packing;
+mod pick;
 mod question;
 mod records;
 mod signature_bytes;
@@ -11,6 +13,7 @@ mod table_bytes;
 mod tables;
 mod variants;
 
+pub use build_bytes::lampughjata_build_bytes;
 pub use leaves::lampughjata_add_flat;
 pub use leaves::lampughjata_align_to;
 pub use leaves::lampughjata_discriminant;
@@ -34,7 +37,6 @@ pub use signatures::lampughjata_contains_borrow;
 pub use signatures::lampughjata_flatten;
 pub use signatures::lampughjata_lifting;
 pub use signatures::lampughjata_lowering;
-pub use table_bytes::lampughjata_build_bytes;
 pub use table_bytes::lampughjata_placement_bytes;
 pub use table_bytes::lampughjata_size_align_bytes;
 pub use table_bytes::lampughjata_type_bytes;

@@ -1,21 +1,24 @@
-// A question as a value, so that what is lent as bytes is decoded in one place.
+// A question on lists is a value, so that what is lent as bytes is decoded in one place.
 ghost use mathlib.Core.Path.{_≡_};
+ghost use Prim.Native.Nat.{_/_, _≤_};
+ghost use lib.ListN.{length};
 ghost use Rattle.words.specs.Words.{wholeWords};
 ghost use Rattle.host.specs.Questions.{questionNumber};
+use crate::packing::refused;
+use crate::pick::SHORT_LIST;
+use crate::pick::no_rows;
+use crate::pick::pick_rows;
 use crate::signatures::lampughjata_async_return;
 use crate::signatures::lampughjata_async_start;
 use crate::signatures::lampughjata_contains_borrow;
 use crate::signatures::lampughjata_flatten;
 use crate::signatures::lampughjata_lifting;
 use crate::signatures::lampughjata_lowering;
-use crate::tables::lampughjata_size_align;
-use crate::tables::lampughjata_type;
+use types::Refusal;
 use words::words_of;
 
-// With the numbers that the call of the same name takes beside the table and the lists.
+// Each has the numbers that the call of the same name takes beside the table and the lists.
 pub(crate) enum Question {
-    Type(u32, u32),
-    SizeAlign(u32, u32),
     Flatten(u32, u32),
     Lowering(u32, u32),
     Lifting(u32, u32),
@@ -24,15 +27,11 @@ pub(crate) enum Question {
     ContainsBorrow,
 }
 
-// A question on fewer than two lists leaves the others unread.
+// A question on one list leaves the other unread.
 fn ask(question: Question, table: &[u32], rows: u32, first: &[u32], second: &[u32]) -> u64
     ensures { λ r. ⌜ r ≡ questionNumber question (now (table .entry)) rows (now (first .entry)) (now (second .entry)) ⌝ }
 {
     match question {
-        Question::Type(reference, k) => lampughjata_type(table, rows, reference, k),
-        Question::SizeAlign(memory, reference) => {
-            lampughjata_size_align(memory, table, rows, reference)
-        }
         Question::Flatten(memory, max) => lampughjata_flatten(memory, max, table, rows, first),
         Question::Lowering(memory, async_) => lampughjata_lowering(
             memory,
@@ -69,13 +68,7 @@ fn ask(question: Question, table: &[u32], rows: u32, first: &[u32], second: &[u3
 }
 
 // No question reads beyond the word 16,384 of a table; a list of 16,385 references is too long already.
-pub(crate) fn ask_bytes(
-    question: Question,
-    table: &[u8],
-    rows: u32,
-    first: &[u8],
-    second: &[u8],
-) -> u64
+fn ask_long(question: Question, table: &[u8], rows: u32, first: &[u8], second: &[u8]) -> u64
     ensures { λ r. ⌜ r ≡ questionNumber question (wholeWords (now (table .entry))) rows (wholeWords (now (first .entry))) (wholeWords (now (second .entry))) ⌝ }
 {
     let mut ts = [0u32; 16384];
@@ -85,4 +78,43 @@ pub(crate) fn ask_bytes(
     let mut ws = [0u32; 16385];
     let seconds = words_of(second, &mut ws);
     ask(question, &ts[..room], rows, &vs[..firsts], &ws[..seconds])
+}
+
+// Each list has sixteen slots for its rows.
+fn ask_short(question: Question, table: &[u8], rows: u32, first: &[u8], second: &[u8]) -> u64
+    requires { ⌜ (length (now first) / 4 ≤ 16) × (length (now second) / 4 ≤ 16) ⌝ }
+    ensures { λ r. ⌜ r ≡ questionNumber question (wholeWords (now (table .entry))) rows (wholeWords (now (first .entry))) (wholeWords (now (second .entry))) ⌝ }
+{
+    if no_rows(table, rows) {
+        return refused(Refusal::BadRow, 0);
+    }
+    let mut picked = [0u32; 512];
+    let mut vs = [0u32; 16];
+    let firsts = pick_rows(table, rows, first, &mut picked, 0, &mut vs);
+    let mut ws = [0u32; 16];
+    let seconds = pick_rows(table, rows, second, &mut picked, 16, &mut ws);
+    ask(question, &picked, 32, &vs[..firsts], &ws[..seconds])
+}
+
+// A longer table answers as its first 65,536 bytes do. It is cut by a call of itself, since the compiler takes no large frame into a function that
+// calls itself: a short list does not pay for the long one's arrays.
+pub(crate) fn ask_bytes(
+    question: Question,
+    table: &[u8],
+    rows: u32,
+    first: &[u8],
+    second: &[u8],
+) -> u64
+    ensures { λ r. ⌜ r ≡ questionNumber question (wholeWords (now (table .entry))) rows (wholeWords (now (first .entry))) (wholeWords (now (second .entry))) ⌝ }
+{
+    if table.len() > 65536 {
+        return ask_bytes(question, &table[..65536], rows, first, second);
+    }
+    if first.len() / 4 > SHORT_LIST {
+        return ask_long(question, table, rows, first, second);
+    }
+    if second.len() / 4 > SHORT_LIST {
+        return ask_long(question, table, rows, first, second);
+    }
+    ask_short(question, table, rows, first, second)
 }

@@ -7,7 +7,7 @@ ghost use Rattle.types.specs.Leaves.{recordAnswer};
 ghost use Rattle.types.specs.Means.{abiMeans, infoAnswerMeans};
 ghost use Rattle.types.specs.States.{recordMeans, noFields, addFields};
 ghost use Rattle.words.specs.Words.{wholeWords};
-ghost use Rattle.host.specs.Infos.{infoAt, several, infosOf};
+ghost use Rattle.host.specs.Infos.{infoAt, several, lentInfos};
 ghost use Rattle.host.specs.Numbers.{leafNumber, chosen, abiWords};
 use crate::lent::info_at;
 use crate::lent::info_at_bytes;
@@ -78,7 +78,7 @@ fn fields_of_bytes(bytes: &[u8], n: usize) -> RecordState
 }
 
 fn record_of(words: &[u32]) -> InfoAnswer
-    ensures { λ r. ⌜ infoAnswerMeans r ≡ recordAnswer (infosOf (now (words .entry))) ⌝ }
+    ensures { λ r. ⌜ infoAnswerMeans r ≡ recordAnswer (lentInfos (now (words .entry))) ⌝ }
 {
     let n = words.len() / 5;
     if n <= 4 {
@@ -89,7 +89,7 @@ fn record_of(words: &[u32]) -> InfoAnswer
 }
 
 fn record_of_bytes(bytes: &[u8]) -> InfoAnswer
-    ensures { λ r. ⌜ infoAnswerMeans r ≡ recordAnswer (infosOf (wholeWords (now (bytes .entry)))) ⌝ }
+    ensures { λ r. ⌜ infoAnswerMeans r ≡ recordAnswer (lentInfos (wholeWords (now (bytes .entry)))) ⌝ }
 {
     let n = bytes.len() / 4 / 5;
     if n <= 4 {
@@ -102,14 +102,14 @@ fn record_of_bytes(bytes: &[u8]) -> InfoAnswer
 // Refuses BadRow if any info is bad, then TooLarge for a start, an end or the size in either memory.
 #[no_mangle]
 pub extern "C" fn lampughjata_record(infos: &[u32], k: u32) -> u64
-    ensures { λ r. ⌜ r ≡ leafNumber (λ a. chosen k (abiWords a)) (recordAnswer (infosOf (now (infos .entry)))) ⌝ }
+    ensures { λ r. ⌜ r ≡ leafNumber (λ a. chosen k (abiWords a)) (recordAnswer (lentInfos (now (infos .entry)))) ⌝ }
 {
     abi_number(record_of(infos), k)
 }
 
 #[no_mangle]
 pub extern "C" fn lampughjata_record_bytes(infos: &[u8], k: u32) -> u64
-    ensures { λ r. ⌜ r ≡ leafNumber (λ a. chosen k (abiWords a)) (recordAnswer (infosOf (wholeWords (now (infos .entry))))) ⌝ }
+    ensures { λ r. ⌜ r ≡ leafNumber (λ a. chosen k (abiWords a)) (recordAnswer (lentInfos (wholeWords (now (infos .entry))))) ⌝ }
 {
     abi_number(record_of_bytes(infos), k)
 }

@@ -6,7 +6,7 @@ ghost use lib.ListN.{length};
 ghost use Rattle.types.specs.Leaves.{variantAnswer};
 ghost use Rattle.types.specs.States.{casesMeans, noCases, addCase, addCases};
 ghost use Rattle.words.specs.Words.{wholeWords};
-ghost use Rattle.host.specs.Infos.{caseAt, casesOf};
+ghost use Rattle.host.specs.Infos.{caseAt, lentCases};
 ghost use Rattle.host.specs.Numbers.{leafNumber, chosen, variantWords};
 use crate::lent::info_at;
 use crate::lent::info_at_bytes;
@@ -40,7 +40,7 @@ fn add_case_bytes(state: VariantState, bytes: &[u8], at: usize) -> VariantState
 }
 
 fn cases_of(words: &[u32]) -> VariantState
-    ensures { λ r. ⌜ casesMeans r ≡ addCases noCases (casesOf (now (words .entry))) ⌝ }
+    ensures { λ r. ⌜ casesMeans r ≡ addCases noCases (lentCases (now (words .entry))) ⌝ }
 {
     let n = words.len() / 6;
     let mut state = VariantState::start();
@@ -53,7 +53,7 @@ fn cases_of(words: &[u32]) -> VariantState
 }
 
 fn cases_of_bytes(bytes: &[u8]) -> VariantState
-    ensures { λ r. ⌜ casesMeans r ≡ addCases noCases (casesOf (wholeWords (now (bytes .entry)))) ⌝ }
+    ensures { λ r. ⌜ casesMeans r ≡ addCases noCases (lentCases (wholeWords (now (bytes .entry)))) ⌝ }
 {
     let n = bytes.len() / 4 / 6;
     let mut state = VariantState::start();
@@ -68,7 +68,7 @@ fn cases_of_bytes(bytes: &[u8]) -> VariantState
 // Refuses BadRow if any info is bad, then BadCount for no case, then TooLarge in either memory.
 #[no_mangle]
 pub extern "C" fn lampughjata_variant(cases: &[u32], k: u32) -> u64
-    ensures { λ r. ⌜ r ≡ leafNumber (λ v. chosen k (variantWords v)) (variantAnswer (casesOf (now (cases .entry)))) ⌝ }
+    ensures { λ r. ⌜ r ≡ leafNumber (λ v. chosen k (variantWords v)) (variantAnswer (lentCases (now (cases .entry)))) ⌝ }
 {
     let state = cases_of(cases);
     if k < 5 {
@@ -80,7 +80,7 @@ pub extern "C" fn lampughjata_variant(cases: &[u32], k: u32) -> u64
 
 #[no_mangle]
 pub extern "C" fn lampughjata_variant_bytes(cases: &[u8], k: u32) -> u64
-    ensures { λ r. ⌜ r ≡ leafNumber (λ v. chosen k (variantWords v)) (variantAnswer (casesOf (wholeWords (now (cases .entry))))) ⌝ }
+    ensures { λ r. ⌜ r ≡ leafNumber (λ v. chosen k (variantWords v)) (variantAnswer (lentCases (wholeWords (now (cases .entry))))) ⌝ }
 {
     let state = cases_of_bytes(cases);
     if k < 5 {

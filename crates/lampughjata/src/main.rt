@@ -3,10 +3,10 @@ use libc::STDIN_FILENO;
 use libc::STDOUT_FILENO;
 
 fn main() {
-    // One byte more than a description may have, so that a longer one shows.
+    // It has one byte more than a description may have, so that a longer one shows.
     let mut bytes = [0u8; 65537];
     let count = io::read_full(STDIN_FILENO, &mut bytes);
-    // Room for the longest text.
+    // The longest text has room in it.
     let mut out = [0u8; 78878];
     let end = listing::report(&bytes[..count], &mut out);
     io::write_all(STDOUT_FILENO, &out[..end]);

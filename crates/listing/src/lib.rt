@@ -1,4 +1,4 @@
-// The text that tells what a build made of a description's bytes.
+// Writes the text that tells what a build made of a description's bytes.
 mod lines;
 mod numbers;
 mod program;

@@ -1,4 +1,4 @@
-// The lines: of a row, and of a build's answer.
+// Writes the line of a row, and the line of a build's answer.
 ghost use mathlib.Core.Path.{_≡_};
 ghost use Prim.Native.Nat.{_+_, _*_, _≤_};
 ghost use lib.ListN.{length};
@@ -64,7 +64,7 @@ fn put_row(out: &mut [u8], at: usize, table: &[u32], index: DefinitionIndex) -> 
     put_byte(out, end, b'\n')
 }
 
-// The lines of the first `count` rows.
+// Writes the lines of the first `count` rows.
 pub(crate) fn put_rows(out: &mut [u8], table: &[u32], count: u32) -> usize
     requires { ⌜ (count ≤ 1024) × (77 * 1024 ≤ length (now out)) ⌝ }
     ensures { λ r. ⌜ Puts (now (out .entry)) 0 (tableLines (now (table .entry)) count) (77 * 1024) r (now (out .exit)) ⌝ }

@@ -1,4 +1,4 @@
-// Bytes and decimal numbers, into lent bytes from a place on; each call answers the place after what it wrote.
+// Writes bytes and decimal numbers into lent bytes from a place on; each call answers the place after what it wrote.
 ghost use mathlib.Core.List.{[], _∷_};
 ghost use mathlib.Core.Path.{_≡_};
 ghost use Prim.Native.Nat.{_+_, _≤_};
@@ -34,7 +34,7 @@ pub(crate) fn put_bytes(out: &mut [u8], at: usize, bytes: &[u8]) -> usize
     end
 }
 
-// At most `most` decimal digits of n.
+// Writes at most `most` decimal digits of n.
 pub(crate) fn put_digits(out: &mut [u8], at: usize, n: u32, most: usize) -> usize
     requires { ⌜ at + most ≤ length (now out) ⌝ }
     ensures { λ r. ⌜ Puts (now (out .entry)) at (digits most n) most r (now (out .exit)) ⌝ }

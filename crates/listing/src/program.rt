@@ -1,4 +1,4 @@
-// What is printed for which bytes.
+// Says what is printed for which bytes.
 ghost use mathlib.Core.Path.{_≡_};
 ghost use Prim.Native.Nat.{_≤_};
 ghost use Rattle.build.specs.Means.{builtMeans};

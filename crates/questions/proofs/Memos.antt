@@ -12,7 +12,7 @@ use lib.Seq.{getD-set-same, getD-set-other, drop-cons, set-at}
 use borrow.Author.Tests.{ltb-true, ltb-false, leb-false, eqb-true, eqb-false}
 use Rattle.canon.specs.Answer.{Leaf, is, no, Answer, ok, refused, atPosition, then, andThen, unless, badRef}
 use Rattle.canon.specs.Layout.{Memory, Layout}
-use Rattle.canon.specs.Row.{Info}
+use Rattle.canon.specs.Row.{Info, infoLayout}
 use Rattle.canon.specs.Types.{plain}
 use Rattle.canon.specs.Table.{rowAt}
 use Rattle.canon.specs.Question.{plainInfo, readRow, read, infos, noTable, typeAnswer, sizeAlignAnswer, layoutsIn}
@@ -21,7 +21,7 @@ use Rattle.canon.proofs.Questions.{read-aligned}
 use Rattle.canon.proofs.Rounding.{Alignment, alignment-pos}
 use Rattle.canon.proofs.Tightest.{Aligned}
 use Rattle.canon.specs.Placement.{fourGiB}
-use Rattle.questions.specs.Steps.{infoLayout, memberLayout, memoLayout, Remembers, Recalled, known}
+use Rattle.questions.specs.Steps.{memberLayout, memoLayout, Remembers, Recalled, known}
 use Rattle.questions.proofs.References.{part-is}
 
 -- by whether two numbers are the same

@@ -2,19 +2,17 @@
 use mathlib.Core.Path.{_≡_, refl, sym, ap, _∙_}
 use mathlib.Core.Bool.{Bool}
 use mathlib.Core.List.{List}
-use mathlib.Core.Option.{Option, none, some}
 use Prim.Native.Nat.{ℕ}
 use denote.Ref.{RefT, at-last}
 use contract.Lifetimes.{Lfts}
 use Rattle.canon.specs.Answer.{Answer, ok, refused}
 use Rattle.canon.specs.Layout as canon
 use Rattle.canon.specs.Row as row
-use Rattle.types.specs.Means.{countMeans}
 use Rattle.types.specs.declared.refusal.Refusal.{Refusal}
-use Rattle.types.specs.declared.flat.FlatCount.{FlatCount}
-use Rattle.types.specs.declared.flat.FlatCount.the-variants as flat
 use Rattle.types.specs.declared.memory.Memory.{Memory}
+use Rattle.types.specs.declared.info.CanonicalAbiInfo.{CanonicalAbiInfo}
 use Rattle.types.proofs.Told.{told, refusalOf, refusal-back}
+use Rattle.types.proofs.Unique.{infoFrom, info-back}
 use Rattle.questions.specs.Means.{typeInfoMeans, typeMeans, layoutAnswerMeans, gatheredMeans, twoMeans}
 use Rattle.questions.specs.Gathers.{Together, Two}
 use Rattle.questions.specs.declared.answer.TypeInfo.{TypeInfo}
@@ -35,42 +33,20 @@ use Rattle.questions.proofs.list.gather.Reads as gather
 use Rattle.questions.proofs.two.gather_two.Reads as gather-two
 use Rattle.questions.proofs.placing.placement.Reads as placement
 
-countFrom : Option ℕ → FlatCount
-countFrom none = flat.None
-countFrom (some n) = flat.Count n
+typeInfoFrom : row.Info → TypeInfo
+typeInfoFrom i = record { abi = infoFrom (i .abi); flat32 = i .flatWords .in32; flat64 = i .flatWords .in64; borrow = i .reach .borrow }
 
-count-back : (c : FlatCount) → countFrom (countMeans c) ≡ c
-unfolding countFrom
-count-back (flat.Count n) = refl
-count-back flat.None = refl
-
-infoFrom : row.Info → TypeInfo
-infoFrom i =
-    record {
-      abi =
-          record {
-            size32 = i .abi .layouts .in32 .size;
-            align32 = i .abi .layouts .in32 .align;
-            size64 = i .abi .layouts .in64 .size;
-            align64 = i .abi .layouts .in64 .align;
-            «flat_count» = countFrom (i .abi .flats);
-          };
-      flat32 = i .flatWords .in32;
-      flat64 = i .flatWords .in64;
-      borrow = i .reach .borrow;
-    }
-
-info-back : (i : TypeInfo) → infoFrom (typeInfoMeans i) ≡ i
-unfolding infoFrom
-info-back i = rw (count-back (i .abi .«flat_count»))
+type-info-back : (i : TypeInfo) → typeInfoFrom (typeInfoMeans i) ≡ i
+unfolding typeInfoFrom
+type-info-back i = ap (λ (a : CanonicalAbiInfo). record { abi = a; flat32 = i .flat32; flat64 = i .flat64; borrow = i .borrow }) (info-back (i .abi))
 
 typeAnswerOf : Answer row.Info → TypeAnswer
-typeAnswerOf (ok i) = type.Info (infoFrom i)
+typeAnswerOf (ok i) = type.Info (typeInfoFrom i)
 typeAnswerOf (refused x p) = type.Refused (refusalOf x) (record { 0 = p })
 
 type-back : (r : TypeAnswer) → typeAnswerOf (typeMeans r) ≡ r
 unfolding typeAnswerOf
-type-back (type.Info i) = ap type.Info (info-back i)
+type-back (type.Info i) = ap type.Info (type-info-back i)
 type-back (type.Refused x p) = ap (λ (y : Refusal). type.Refused y p) (refusal-back x)
 
 pub layoutAnswerOf : Answer canon.Layout → LayoutAnswer

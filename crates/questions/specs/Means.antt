@@ -70,6 +70,6 @@ abbrev pub memberMeans : Member → Leaf Layout
 memberMeans (member.Layout f) = is (layoutMeans f)
 memberMeans (member.Refused r) = no (numberOf r)
 
-abbrev pub nextMeans : Next → Leaf Together
-nextMeans (next.One g) = is (gatheringMeans g)
-nextMeans (next.Refused r) = no (numberOf r)
+abbrev pub oneMeans : Next → Leaf Together
+oneMeans (next.One g) = is (gatheringMeans g)
+oneMeans (next.Refused r) = no (numberOf r)

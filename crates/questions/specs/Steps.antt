@@ -5,9 +5,9 @@ use mathlib.Core.Path.{_≡_}
 use Prim.Native.Nat.{ℕ, _/_, _%_, _<_, _≤_}
 use lib.ListN.{length, getD}
 use Rattle.canon.specs.Answer.{Leaf, is, andThen, Answer, ok, refused, then, tooLarge}
-use Rattle.canon.specs.Layout.{Memory, within, Layout, starts, lastEnd, largestNumber}
+use Rattle.canon.specs.Layout.{Memory, Layout, starts, lastEnd, largestNumber}
 use Rattle.canon.specs.Reach.{joinReach, reachWord, wordReach}
-use Rattle.canon.specs.Row.{Info, flatOf}
+use Rattle.canon.specs.Row.{Info, flatOf, infoLayout}
 use Rattle.canon.specs.Question.{read, infos, Placing, placed, layoutsIn, bufferAfter}
 use Rattle.canon.proofs.Tightest.{Aligned}
 use Rattle.canon.specs.Placement.{fourGiB}
@@ -40,9 +40,6 @@ abbrev pub twoRefs : List ℕ → ℕ → Memory → List ℕ → Memory → Lis
 twoRefs t n a vs b ws = then (infos (read t n) 0 vs) (λ is′. then (infos (read t n) (length vs) ws) (λ js. ok (togetherTwo a is′ b js)))
 
 -- Placement
-
-abbrev pub infoLayout : Memory → Info → Layout
-infoLayout m i = within m (i .abi .layouts)
 
 abbrev pub memberLayout : Memory → List ℕ → ℕ → ℕ → Leaf Layout
 memberLayout m t n w = part (infoLayout m) (read t n w)

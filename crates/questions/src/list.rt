@@ -5,7 +5,7 @@ ghost use Prim.Native.Nat.{_≤_};
 ghost use lib.ListN.{length};
 ghost use Rattle.canon.specs.Question.{read, noTable};
 ghost use Rattle.types.specs.Means.{memoryOf};
-ghost use Rattle.questions.specs.Means.{nextMeans, gatheringMeans, gatheredMeans};
+ghost use Rattle.questions.specs.Means.{oneMeans, gatheringMeans, gatheredMeans};
 ghost use Rattle.questions.specs.Gathers.{togetherRefs, gatherAnswer};
 ghost use Rattle.questions.specs.Steps.{part, alone, withMore};
 use crate::read::Named;
@@ -60,7 +60,7 @@ impl Gathering {
 
 fn read_next(memory: Memory, table: &[u32], n: u32, reference: u32) -> Next
     requires { ⌜ noTable (now table) n ≡ false ⌝ }
-    ensures { λ r. ⌜ nextMeans r ≡ part (alone (memoryOf memory)) (read (now (table .entry)) n reference) ⌝ }
+    ensures { λ r. ⌜ oneMeans r ≡ part (alone (memoryOf memory)) (read (now (table .entry)) n reference) ⌝ }
 {
     if reference < FIRST_DEFINITION {
         return match plain_info(reference) {

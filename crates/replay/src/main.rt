@@ -22,7 +22,7 @@ struct Tally {
     different: usize,
 }
 
-// 0 past the end.
+// Answers 0 past the end.
 fn word(words: &[u32], at: usize) -> u32 {
     if at < words.len() { words[at] } else { 0 }
 }

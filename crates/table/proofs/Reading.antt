@@ -18,11 +18,19 @@ use Rattle.canon.specs.Table.{capacity, cell, cellsFrom, putFrom}
 use Rattle.flat_types.specs.Lists.{halves, whole}
 use Rattle.table.specs.Rows.{rowIn, tableWith, rowFlats}
 
-cells-at : (room : ℕ) (t : List ℕ) (row k n i : ℕ) → i < n → getD (cellsFrom room t row k n) i 0 ≡ cell room t row (k + i)
+pub cells-at : (room : ℕ) (t : List ℕ) (row k n i : ℕ) → i < n → getD (cellsFrom room t row k n) i 0 ≡ cell room t row (k + i)
 unfolding cellsFrom
 cells-at room t row k zero i h = absurd (omega arith)
 cells-at room t row k (suc n) zero h = ap (cell room t row) (omega arith)
 cells-at room t row k (suc n) (suc i) h = cells-at room t row (suc k) n i (omega arith) ∙ ap (cell room t row) (omega arith)
+
+pub cell-of : (room : ℕ) (t : List ℕ) (row k : ℕ) → k < 16 → getD (cellsFrom room t row 0 16) k 0 ≡ cell room t row k
+cell-of room t row k h = cells-at room t row 0 16 k h ∙ ap (cell room t row) (zero-add k)
+
+pub length-cells : (room : ℕ) (t : List ℕ) (row k n : ℕ) → length (cellsFrom room t row k n) ≡ n
+unfolding cellsFrom
+length-cells room t row k zero = refl
+length-cells room t row k (suc n) = ap suc (length-cells room t row (suc k) n)
 
 -- two words in one number are found again
 pub halves-whole : (b : Both ℕ) → b .in32 < 2 ^ 32 → halves (whole b) ≡ b
@@ -38,7 +46,7 @@ module _ (t : List ℕ) (room j : ℕ) (e : room ≡ capacity (length t)) where
   row-missing h = rw (← e, le-ltb j room h)
 
   pub word-there : (k : ℕ) → k < 16 → j < room → word (rowIn t j) k ≡ cell room t j k
-  word-there k l h = rw (row-there h) (cells-at room t j 0 16 k l ∙ ap (cell room t j) (zero-add k))
+  word-there k l h = rw (row-there h) (cell-of room t j k l)
 
   pub put-there : (ws : List ℕ) → j < room → tableWith t j ws ≡ putFrom room j 0 ws t
   unfolding tableWith

@@ -1,4 +1,4 @@
--- No second outcome meets a promise, in the answer or in the lent table.
+-- No second outcome meets a promise, in the answer or in the lent memory.
 use mathlib.Core.Bool.{Bool, true}
 use mathlib.Core.Path.{_≡_, refl, sym, ap, ap₂, _∙_}
 use mathlib.Core.List.{List}
@@ -26,6 +26,7 @@ use Rattle.table.specs.declared.plain.Found.the-variants as found
 use Rattle.table.specs.declared.reach.Reach.{Reach}
 use Rattle.table.specs.declared.row.Row.{Row}
 use Rattle.table.proofs.cells.capacity.Reads as capacity
+use Rattle.table.proofs.from_bytes.take_row.Reads as take-row
 use Rattle.table.proofs.plain.plain_info.Reads as plain-info
 use Rattle.table.proofs.reach.Reach.is_borrow.Reads as is-borrow
 use Rattle.table.proofs.reach.Reach.is_good.Reads as is-good
@@ -37,6 +38,7 @@ use Rattle.table.proofs.read.row_kind.Reads as row-kind
 use Rattle.table.proofs.read.row_layout.Reads as row-layout
 use Rattle.table.proofs.read.row_reach.Reads as row-reach
 use Rattle.table.proofs.row.put_row.Reads as put-row
+use Rattle.table.proofs.to_bytes.give_row.Reads as give-row
 
 -- an info from its meaning and its word 15
 abbrev back : ℕ → canon.Info → Info
@@ -113,3 +115,17 @@ module _ (κs : Lfts 1) (t : RefT (List ℕ)) (j : DefinitionIndex) where
       put-row.Post κs (t, (j, (row, tt))) tt (at-last t k, (j, (row, tt))) →
       l ≡ k
   put-row-one row l k g h = g ∙ sym h
+
+pub give-row-one :
+    (κs : Lfts 2) (t : RefT (List ℕ)) (j : DefinitionIndex) (b : RefT (List ℕ)) (l k : List ℕ) →
+    give-row.Post κs (t, (j, (b, tt))) tt (t, (j, (at-last b l, tt))) →
+    give-row.Post κs (t, (j, (b, tt))) tt (t, (j, (at-last b k, tt))) →
+    l ≡ k
+give-row-one κs t j b l k g h = g ∙ sym h
+
+pub take-row-one :
+    (κs : Lfts 2) (b : RefT (List ℕ)) (i : DefinitionIndex) (t : RefT (List ℕ)) (j : DefinitionIndex) (l k : List ℕ) →
+    take-row.Post κs (b, (i, (t, (j, tt)))) tt (b, (i, (at-last t l, (j, tt)))) →
+    take-row.Post κs (b, (i, (t, (j, tt)))) tt (b, (i, (at-last t k, (j, tt)))) →
+    l ≡ k
+take-row-one κs b i t j l k g h = g ∙ sym h

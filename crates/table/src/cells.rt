@@ -1,10 +1,10 @@
-// The cells of a table: `place` alone says where a word of a row stands.
+// Reads and writes the cells of a table; `place` alone says where a word of a row stands.
 ghost use mathlib.Core.Path.{_≡_};
 ghost use Prim.Native.Nat.{_*_, _≤_, _<_};
 ghost use lib.ListN.{length};
 ghost use Rattle.canon.specs.Table.{capacity, place, cell, putFrom};
 
-// How many rows a buffer of so many words has room for.
+// Answers how many rows a buffer of so many words has room for.
 pub fn capacity(words: usize) -> usize
     ensures { λ r. ⌜ (r ≡ capacity words) × (r ≤ 1024) × (16 * r ≤ words) ⌝ }
 {
@@ -12,7 +12,7 @@ pub fn capacity(words: usize) -> usize
     if rows < 1024 { rows } else { 1024 }
 }
 
-fn place(room: usize, row: usize, word: usize) -> usize
+pub(crate) fn place(room: usize, row: usize, word: usize) -> usize
     requires { ⌜ (row < room) × (word < 16) × (room ≤ 1024) ⌝ }
     ensures { λ r. ⌜ r ≡ place room row word ⌝ }
 {

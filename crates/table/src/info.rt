@@ -5,7 +5,7 @@ use flat_types::FlatTypes;
 use types::Layout;
 use types::Layouts;
 
-// The reference to definition 0.
+// Is the reference to definition 0.
 pub const FIRST_DEFINITION: u32 = 64;
 
 pub struct DefinitionIndex(pub u32);

@@ -1,12 +1,15 @@
-// A table in a lent buffer: rows of sixteen words, one for each definition, and what a reference without a definition stands for.
+// A table in a lent buffer has a row of sixteen words for each definition; a reference without a definition stands for a type of its own.
 mod cells;
+mod from_bytes;
 mod info;
 mod plain;
 mod reach;
 mod read;
 mod row;
+mod to_bytes;
 
 pub use cells::capacity;
+pub use from_bytes::take_row;
 pub use info::DefinitionIndex;
 pub use info::FIRST_DEFINITION;
 pub use info::Info;
@@ -24,3 +27,4 @@ pub use read::row_reach;
 pub use row::Inner;
 pub use row::Row;
 pub use row::put_row;
+pub use to_bytes::give_row;

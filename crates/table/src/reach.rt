@@ -16,7 +16,7 @@ impl Reach {
         self.0 == 1
     }
 
-    // What either reaches.
+    // Gives what either reaches.
     pub fn join(self, other: Reach) -> Reach
         ensures { λ r. ⌜ r ≡ reachOf (joinReach (reachMeans self) (reachMeans other)) ⌝ }
     {
@@ -29,7 +29,7 @@ impl Reach {
         Reach::NONE
     }
 
-    // Whether a row may hold this word.
+    // Tells whether a row may hold this word.
     pub fn is_good(self) -> bool
         ensures { λ r. ⌜ r ≡ goodReach (self .0) ⌝ }
     {

@@ -1,4 +1,4 @@
-// Reading a row: whether it has a good form, and what a question needs of it. A row that the table has no room for reads as zeros.
+// Tests whether a row has a good form, and reads what a question needs of it. A row that the table has no room for reads as zeros.
 ghost use mathlib.Core.Path.{_≡_};
 ghost use mathlib.Core.Bool.{_&&_};
 ghost use Prim.Native.Nat.{_<_};
@@ -58,7 +58,7 @@ fn row_types(table: &[u32], index: DefinitionIndex) -> FlatTypes
     )
 }
 
-// The words that no info has: the discriminant's size is 0, 1, 2 or 4, and the reach is good.
+// Tests the words that no info has: the discriminant's size is 0, 1, 2 or 4, and the reach is good.
 fn good_rest(table: &[u32], index: DefinitionIndex) -> bool
     ensures { λ r. ⌜ r ≡ isDiscriminant (word (rowIn (now (table .entry)) (index .0)) 8) && goodReach (word (rowIn (now (table .entry)) (index .0)) 15) ⌝ }
 {
@@ -111,7 +111,7 @@ pub fn row_layout(table: &[u32], index: DefinitionIndex, memory: Memory) -> Layo
     }
 }
 
-// The count and the word as they stand: in a row of good form nothing lies above the types.
+// Gives the count and the word as they stand: in a row of good form nothing lies above the types.
 pub fn row_flat(table: &[u32], index: DefinitionIndex, memory: Memory) -> FlatList
     ensures { λ r. ⌜ words r ≡ rowPacked (memoryOf memory) (rowIn (now (table .entry)) (index .0)) ⌝ }
 {

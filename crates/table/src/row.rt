@@ -1,4 +1,4 @@
-// The sixteen words of a row, put into a table.
+// Puts the sixteen words of a row into a table.
 ghost use mathlib.Core.Path.{_≡_};
 ghost use Rattle.table.specs.Means.{rowMeans};
 ghost use Rattle.table.specs.Rows.{tableWith};

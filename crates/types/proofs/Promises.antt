@@ -96,12 +96,12 @@ module _ (is′ : List Abi) where
       go true false false h p q =
           record {
             answered = λ a e m. let same : a ≡ recordAbi is′ = cc in rw same (both-fit m);
-            refused = (λ e. impossible (cc), λ n. absurd (n .1 .1 _ _ (fits h (n .1 .0) (neither (n .1 .0)) .1 .placement)));
+            refused = (λ e. impossible (cc), λ n. absurd (n .1 .1 _ _ (fits h (n .1 .0) (both-below (n .1 .0)) .1 .placement)));
           }
         where
-          neither : (m : Memory) → tooLargeIn m ≡ false
-          neither mem32 = p
-          neither mem64 = q
+          both-below : (m : Memory) → tooLargeIn m ≡ false
+          both-below mem32 = p
+          both-below mem64 = q
 
           both-fit : (m : Memory) → TightestLayout (abiLayouts m is′) (within m (recordAbi is′ .layouts))
           both-fit mem32 = fits h mem32 p

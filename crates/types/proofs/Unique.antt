@@ -42,21 +42,7 @@ use Rattle.types.specs.declared.variant.VariantState.{VariantState}
 use Rattle.types.specs.declared.variant.VariantAnswer.{VariantAnswer}
 use Rattle.types.specs.declared.variant.VariantAnswer.the-variants as variant
 use Rattle.types.specs.Leaves.{Field, VariantAbi, recordAnswer}
-use Rattle.types.specs.Means.{
-  numberOf,
-  roundedMeans,
-  countMeans,
-  bytesOf,
-  discriminantMeans,
-  layoutMeans,
-  layoutsMeans,
-  extentsOf,
-  fittedMeans,
-  abiMeans,
-  infoAnswerMeans,
-  nextMeans,
-  variantMeans,
-}
+use Rattle.types.specs.Means.{roundedMeans, countMeans, bytesOf, discriminantMeans, layoutMeans, layoutsMeans, extentsOf, fittedMeans, abiMeans, infoAnswerMeans, nextMeans, variantMeans}
 use Rattle.types.specs.States.{Fields, recordMeans, Cases, casesMeans}
 use Rattle.types.proofs.Told.{told, refusalOf, refusal-back}
 use Rattle.types.proofs.refusal.Refusal.number.Reads as number-reads
@@ -116,7 +102,7 @@ layoutFrom f = record { size = f .size; align = f .align }
 abbrev layoutsFrom : canon.Both canon.Layout → Layouts
 layoutsFrom b = record { in32 = layoutFrom (b .in32); in64 = layoutFrom (b .in64) }
 
-abbrev infoFrom : Abi → CanonicalAbiInfo
+abbrev pub infoFrom : Abi → CanonicalAbiInfo
 infoFrom a =
     record {
       size32 = a .layouts .in32 .size;
@@ -126,7 +112,7 @@ infoFrom a =
       «flat_count» = countFrom (a .flats);
     }
 
-info-back : (i : CanonicalAbiInfo) → infoFrom (abiMeans i) ≡ i
+pub info-back : (i : CanonicalAbiInfo) → infoFrom (abiMeans i) ≡ i
 info-back i = rw (count-back (i .«flat_count»))
 
 -- each answer

@@ -1,7 +1,7 @@
 -- Laws of the words in bytes: what is read back after words are put, and what is kept.
 use mathlib.Core.Path.{_≡_, refl, sym, ap, ap₂, _∙_}
-use mathlib.Core.List.{List, [], _∷_, _++_, map}
-use Prim.Native.Nat.{ℕ, zero, suc, _+_, _*_, _/_, _%_, _-_, _≤_, _<_, min}
+use mathlib.Core.List.{List, [], _∷_, _++_, map, append-nil}
+use Prim.Native.Nat.{ℕ, zero, suc, _+_, _*_, _/_, _%_, _-_, _^_, _≤_, _<_, min}
 use native.Mathlib.Decide.{ℕ-discrete, decLe}
 use native.Mathlib.Nat.{add-zero, add-suc, suc-add, zero-add, add-comm, mul-comm, mod-eq-of-lt}
 use native.Mathlib.Numerals.{add-one}
@@ -16,8 +16,11 @@ use lib.Seq.{
   take-at,
   take-all,
   getD-take,
+  getD-drop,
   drop-at,
   set-getD,
+  set-out,
+  set-append-left,
   getD-set-same,
   getD-set-other,
   drop-set-lt,
@@ -51,6 +54,30 @@ whole-at b i h = word-of b 0 (length b / 4) i h ∙ ap (wordAt b) (zero-add i)
 
 pub whole-past : (b : List ℕ) (i : ℕ) → length b / 4 ≤ i → getD (wholeWords b) i 0 ≡ 0
 whole-past b i h = List·getD-eq-default (wholeWords b) 0 {n = i} (omega (arith, length-whole b))
+
+-- bytes make words
+pub whole-small : (b : List ℕ) → ((j : ℕ) → getD b j 0 < 256) → (i : ℕ) → getD (wholeWords b) i 0 < 4294967296
+unfolding wordAt
+whole-small b bytes i =
+    elim (decLe (length b / 4) i) [
+      | yes h ↦ omega (arith, whole-past b i h)
+      | no h ↦ omega (arith, whole-at b i (omega arith), bytes (4 * i), bytes (4 * i + 1), bytes (4 * i + 2), bytes (4 * i + 3))
+    ]
+
+-- the words of the first bytes
+pub whole-take : (n : ℕ) (b : List ℕ) → wholeWords (take (4 * n) b) ≡ take n (wholeWords b)
+unfolding wordAt
+whole-take n b =
+    ext-getD 0 (wholeWords front) (take n (wholeWords b)) (omega (arith, length-whole front, length-take (4 * n) b, length-whole b, length-take n (wholeWords b))) (λ i h. at i (omega (arith, length-whole front, length-take (4 * n) b)))
+  where
+    front : List ℕ
+    front = take (4 * n) b
+
+    at : (i : ℕ) → (i < n) × (i < length b / 4) → getD (wholeWords front) i 0 ≡ getD (take n (wholeWords b)) i 0
+    at i h =
+        whole-at front i (omega (arith, length-take (4 * n) b))
+        ∙ rw (getD-take (4 * n) b (4 * i) 0 (omega arith), getD-take (4 * n) b (4 * i + 1) 0 (omega arith), getD-take (4 * n) b (4 * i + 2) 0 (omega arith), getD-take (4 * n) b (4 * i + 3) 0 (omega arith))
+        (sym (whole-at b i (h .1)) ∙ sym (getD-take n (wholeWords b) i 0 (h .0)))
 
 -- a turn of the reading loop
 pub read-turn :
@@ -132,13 +159,13 @@ four-bytes w =
     let four : w % 4294967296 ≡ w % 16777216 + 16777216 * (w / 16777216 % 256) = byte-more w 16777216 (omega arith) in
     rw (four, three, two)
 
--- a byte stored among bytes
-set-below : (b : List ℕ) (i v : ℕ) → v < 256 → ((j : ℕ) → getD b j 0 < 256) → (j : ℕ) → getD (set b i v) j 0 < 256
-set-below [] i v h bytes j = omega arith
-set-below (x ∷ b) zero v h bytes zero = h
-set-below (x ∷ b) zero v h bytes (suc j) = bytes (suc j)
-set-below (x ∷ b) (suc i) v h bytes zero = bytes 0
-set-below (x ∷ b) (suc i) v h bytes (suc j) = set-below b i v h (λ m. bytes (suc m)) j
+-- a number stored among numbers below a bound
+pub set-below : (n : ℕ) (b : List ℕ) (i v : ℕ) → v < n → ((j : ℕ) → getD b j 0 < n) → (j : ℕ) → getD (set b i v) j 0 < n
+set-below n [] i v h bytes j = omega arith
+set-below n (x ∷ b) zero v h bytes zero = h
+set-below n (x ∷ b) zero v h bytes (suc j) = bytes (suc j)
+set-below n (x ∷ b) (suc i) v h bytes zero = bytes 0
+set-below n (x ∷ b) (suc i) v h bytes (suc j) = set-below n b i v h (λ m. bytes (suc m)) j
 
 module _ (k w : ℕ) (b : List ℕ) where
   -- after one, two and three stores
@@ -160,6 +187,16 @@ module _ (k w : ℕ) (b : List ℕ) where
       ∙ drop-set-lt n two (4 * k + 2) (w / 65536 % 256) (omega arith)
       ∙ drop-set-lt n one (4 * k + 1) (w / 256 % 256) (omega arith)
       ∙ drop-set-lt n b (4 * k) (w % 256) (omega arith)
+
+  put-front : (c : List ℕ) → 4 * k + 4 ≤ length b → putWord k w (b ++ c) ≡ putWord k w b ++ c
+  unfolding putWord
+  put-front c h =
+      rw (
+        set-append-left b c (4 * k) (w % 256) (omega arith),
+        set-append-left one c (4 * k + 1) (w / 256 % 256) (simp length-set (omega arith)),
+        set-append-left two c (4 * k + 2) (w / 65536 % 256) (simp length-set (omega arith)),
+        set-append-left three c (4 * k + 3) (w / 16777216 % 256) (simp length-set (omega arith)),
+      )
 
   -- and every byte of another word
   put-apart : (p : ℕ) → (p / 4 ≡ k → ⊥) → getD (putWord k w b) p 0 ≡ getD b p 0
@@ -210,9 +247,9 @@ module _ (k w : ℕ) (b : List ℕ) where
   put-below : ((j : ℕ) → getD b j 0 < 256) → (j : ℕ) → getD (putWord k w b) j 0 < 256
   unfolding putWord
   put-below bytes =
-      set-below three (4 * k + 3) (w / 16777216 % 256) (omega arith)
-      (set-below two (4 * k + 2) (w / 65536 % 256) (omega arith)
-      (set-below one (4 * k + 1) (w / 256 % 256) (omega arith) (set-below b (4 * k) (w % 256) (omega arith) bytes)))
+      set-below 256 three (4 * k + 3) (w / 16777216 % 256) (omega arith)
+      (set-below 256 two (4 * k + 2) (w / 65536 % 256) (omega arith)
+      (set-below 256 one (4 * k + 1) (w / 256 % 256) (omega arith) (set-below 256 b (4 * k) (w % 256) (omega arith) bytes)))
 
 -- Many words
 
@@ -220,6 +257,13 @@ puts-behind : (n k : ℕ) (ws b : List ℕ) → 4 * (k + length ws) ≤ n → dr
 unfolding putWords
 puts-behind n k [] b h = refl
 puts-behind n k (w ∷ ws) b h = puts-behind n (suc k) ws (putWord k w b) (omega arith) ∙ put-behind k w b n (omega arith)
+
+-- what stands behind the bytes is kept
+pub puts-front : (k : ℕ) (ws b c : List ℕ) → 4 * (k + length ws) ≤ length b → putWords k ws (b ++ c) ≡ putWords k ws b ++ c
+unfolding putWords
+puts-front k [] b c h = refl
+puts-front k (w ∷ ws) b c h =
+    ap (putWords (suc k) ws) (put-front k w b c (omega arith)) ∙ puts-front (suc k) ws (putWord k w b) c (rw (length-put k w b) (omega arith))
 
 -- the bytes after the last whole word are kept
 pub put-tail : (ws b : List ℕ) → length ws ≤ length b / 4 → drop (4 * (length b / 4)) (putWords 0 ws b) ≡ drop (4 * (length b / 4)) b
@@ -262,6 +306,11 @@ pub put-read :
     (ws b : List ℕ) → ((i : ℕ) → getD ws i 0 < 4294967296) → length ws ≤ length b / 4 →
     wholeWords (putWords 0 ws b) ≡ ws ++ drop (length ws) (wholeWords b)
 put-read ws b small h = puts-read ws b h ∙ ap (λ (l : List ℕ). l ++ drop (length ws) (wholeWords b)) (low-same ws small)
+
+-- as many as there are whole words
+pub put-all : (ws b : List ℕ) → ((i : ℕ) → getD ws i 0 < 4294967296) → length ws ≡ length b / 4 → wholeWords (putWords 0 ws b) ≡ ws
+put-all ws b small h =
+    put-read ws b small (omega arith) ∙ ap (λ (l : List ℕ). ws ++ l) (drop-of-length-le (wholeWords b) {i = length ws} (omega (arith, length-whole b))) ∙ append-nil ws
 
 -- Putting what stands there already
 
@@ -307,3 +356,75 @@ put-rest x b bytes h =
 pub put-same : (b : List ℕ) → ((j : ℕ) → getD b j 0 < 256) → putWords 0 (wholeWords b) b ≡ b
 unfolding putWords
 put-same b bytes = put-rest [] b bytes (omega arith)
+
+-- Bytes by their words
+
+-- a byte is read off its word
+byte-at : (b : List ℕ) → ((j : ℕ) → getD b j 0 < 256) → (q r : ℕ) → r < 4 → getD b (4 * q + r) 0 ≡ wordAt b q / 256 ^ r % 256
+unfolding wordAt
+byte-at b bytes q r h = go r h (bytes-of (getD b (4 * q) 0) (getD b (4 * q + 1) 0) (getD b (4 * q + 2) 0) (getD b (4 * q + 3) 0) (bytes _) (bytes _) (bytes _) (bytes _))
+  where
+    word : ℕ
+    word = getD b (4 * q) 0 + 256 * getD b (4 * q + 1) 0 + 65536 * getD b (4 * q + 2) 0 + 16777216 * getD b (4 * q + 3) 0
+
+    go :
+        (r : ℕ) → r < 4 →
+        (word % 256 ≡ getD b (4 * q) 0)
+        × (word / 256 % 256 ≡ getD b (4 * q + 1) 0)
+        × (word / 65536 % 256 ≡ getD b (4 * q + 2) 0)
+        × (word / 16777216 % 256 ≡ getD b (4 * q + 3) 0) →
+        getD b (4 * q + r) 0 ≡ word / 256 ^ r % 256
+    go zero h e = rw (add-zero (4 * q)) (omega (arith, e .0))
+    go (suc zero) h e = sym (e .1)
+    go (suc (suc zero)) h e = sym (e .2)
+    go (suc (suc (suc zero))) h e = sym (e .3)
+    go (suc (suc (suc (suc r)))) h e = absurd (omega arith)
+
+-- bytes are the same if their whole words are, and the bytes after them
+same-bytes :
+    (n : ℕ) (a b : List ℕ) → ((j : ℕ) → getD a j 0 < 256) → ((j : ℕ) → getD b j 0 < 256) → length a ≡ length b → n ≤ 4 * (length b / 4) →
+    wholeWords a ≡ wholeWords b → drop n a ≡ drop n b → a ≡ b
+same-bytes n a b bytes bytes′ l h e f =
+    ext-getD 0 a b l
+    (λ p q.
+    elim (decLe (length b / 4) (p / 4)) [
+      | yes m ↦
+          let i : n + (p - n) ≡ p = omega arith in
+          rw (← i) (sym (getD-drop n a (p - n) 0) ∙ ap (λ (c : List ℕ). getD c (p - n) 0) f ∙ getD-drop n b (p - n) 0)
+      | no m ↦
+          let i : 4 * (p / 4) + p % 4 ≡ p = omega arith in
+          rw (← i) (byte-at a bytes (p / 4) (p % 4) (omega arith) ∙ ap (λ (w : ℕ). w / 256 ^ (p % 4) % 256) (word (p / 4) (omega arith)) ∙ sym (byte-at b bytes′ (p / 4) (p % 4) (omega arith)))
+    ])
+  where
+    word : (i : ℕ) → i < length b / 4 → wordAt a i ≡ wordAt b i
+    word i h = sym (whole-at a i (rw l h)) ∙ ap (λ (ws : List ℕ). getD ws i 0) e ∙ whole-at b i h
+
+-- what is put over all words is all that is left of them
+pub puts-over :
+    (v u b : List ℕ) → ((j : ℕ) → getD b j 0 < 256) → length u ≡ length b / 4 → length v ≡ length b / 4 →
+    putWords 0 v (putWords 0 u b) ≡ putWords 0 v b
+puts-over v u b bytes l m =
+    let after = putWords 0 u b in
+    let same : length after ≡ length b = length-puts 0 u b in
+    same-bytes (4 * length v) (putWords 0 v after) (putWords 0 v b) (puts-below 0 v after (puts-below 0 u b bytes)) (puts-below 0 v b bytes)
+    (length-puts 0 v after ∙ same ∙ sym (length-puts 0 v b)) (rw (length-puts 0 v b) (omega arith))
+    (puts-read v after (omega arith) ∙ ap (λ (l : List ℕ). map low v ++ l) (none after same ∙ sym (none b refl)) ∙ sym (puts-read v b (omega arith)))
+    (puts-behind (4 * length v) 0 v after (omega arith) ∙ puts-behind (4 * length v) 0 u b (omega arith) ∙ sym (puts-behind (4 * length v) 0 v b (omega arith)))
+  where
+    none : (c : List ℕ) → length c ≡ length b → drop (length v) (wholeWords c) ≡ []
+    none c e = drop-of-length-le (wholeWords c) {i = length v} (omega (arith, length-whole c))
+
+-- one word put is all of them put, this one changed
+pub put-one :
+    (k w : ℕ) (b : List ℕ) → ((j : ℕ) → getD b j 0 < 256) → w < 4294967296 → k < length b / 4 →
+    putWord k w b ≡ putWords 0 (set (wholeWords b) k w) b
+put-one k w b bytes small h =
+    let ws = set (wholeWords b) k w in
+    let l : length ws ≡ length b / 4 = length-set (wholeWords b) k w ∙ length-whole b in
+    same-bytes (4 * length ws) (putWord k w b) (putWords 0 ws b) (put-below k w b bytes) (puts-below 0 ws b bytes)
+    (length-put k w b ∙ sym (length-puts 0 ws b)) (rw (length-puts 0 ws b) (omega arith))
+    (put-set k w b h ∙ ap (set (wholeWords b) k) (mod-eq-of-lt small) ∙ sym (put-all ws b (set-below 4294967296 (wholeWords b) k w small (whole-small b bytes)) l))
+    (put-behind k w b (4 * length ws) (omega arith) ∙ sym (puts-behind (4 * length ws) 0 ws b (omega arith)))
+
+pub put-past : (k w : ℕ) (b : List ℕ) → ((j : ℕ) → getD b j 0 < 256) → length b / 4 ≤ k → b ≡ putWords 0 (set (wholeWords b) k w) b
+put-past k w b bytes h = sym (ap (λ (ws : List ℕ). putWords 0 ws b) (set-out (wholeWords b) k w (omega (arith, length-whole b))) ∙ put-same b bytes)

@@ -8,10 +8,18 @@ use denote.Ref.{RefT, now, at-last}
 use Rattle.words.specs.Words.{wholeWords}
 use Rattle.words.proofs.reading.word_at.Reads as word-at
 use Rattle.words.proofs.reading.words_of.Reads as words-of
+use Rattle.words.proofs.writing.put_word_at.Reads as put-word-at
 use Rattle.words.proofs.writing.put_words.Reads as put-words
 
 pub word-at-one : (κs : Lfts 1) (b : RefT (List ℕ)) (k r q : ℕ) → word-at.Post κs (b, (k, tt)) r (b, (k, tt)) → word-at.Post κs (b, (k, tt)) q (b, (k, tt)) → r ≡ q
 word-at-one κs b k r q g h = g ∙ sym h
+
+pub put-word-at-one :
+    (κs : Lfts 1) (b : RefT (List ℕ)) (k w : ℕ) (l m : List ℕ) →
+    put-word-at.Post κs (b, (k, (w, tt))) tt (at-last b l, (k, (w, tt))) →
+    put-word-at.Post κs (b, (k, (w, tt))) tt (at-last b m, (k, (w, tt))) →
+    l ≡ m
+put-word-at-one κs b k w l m g h = g ∙ sym h
 
 module _ (κs : Lfts 2) (s t : RefT (List ℕ)) (l k : List ℕ) where
   pub words-of-one :

@@ -1,4 +1,4 @@
-// The words that bytes hold.
+// Reads the words that bytes hold.
 ghost use mathlib.Core.Path.{_≡_};
 ghost use mathlib.Core.List.{_++_};
 ghost use Prim.Native.Nat.{_+_, _*_, _/_, _≤_, min};
@@ -29,7 +29,7 @@ pub(crate) fn lesser(a: usize, b: usize) -> usize
     if a < b { a } else { b }
 }
 
-// The word k of the bytes; 0 where there is no whole word.
+// Answers the word k of the bytes, 0 where there is no whole word.
 pub fn word_at(bytes: &[u8], k: usize) -> u32
     ensures { λ r. ⌜ r ≡ getD (wholeWords (now (bytes .entry))) k 0 ⌝ }
 {
@@ -40,7 +40,7 @@ pub fn word_at(bytes: &[u8], k: usize) -> u32
     }
 }
 
-// The whole words of the bytes into the front of `words`, as many as fit; answers how many. The words after them keep their value.
+// Reads the whole words of the bytes into the front of `words`, as many as fit, and answers how many. The words after them keep their value.
 pub fn words_of(bytes: &[u8], words: &mut [u32]) -> usize
     ensures { λ r. ⌜ (r ≡ min (length (now (bytes .entry)) / 4) (length (now (words .entry)))) × (now (words .exit) ≡ take r (wholeWords (now (bytes .entry))) ++ drop r (now (words .entry))) ⌝ }
 {

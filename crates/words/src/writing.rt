@@ -1,8 +1,8 @@
-// The bytes that words become.
+// Writes the bytes that words become.
 ghost use mathlib.Core.Path.{_≡_};
 ghost use Prim.Native.Nat.{_+_, _*_, _/_, _≤_};
-ghost use lib.ListN.{length, take};
-ghost use Rattle.words.specs.Words.{putWord, putWords};
+ghost use lib.ListN.{length, take, set};
+ghost use Rattle.words.specs.Words.{wholeWords, putWord, putWords};
 use crate::reading::lesser;
 
 fn put_word(bytes: &mut [u8], k: usize, word: u32)
@@ -20,7 +20,16 @@ fn put_word(bytes: &mut [u8], k: usize, word: u32)
     bytes[at + 3] = d;
 }
 
-// The words into the front of the bytes, as many as fit. The bytes after them keep their value.
+// Puts the word k into the bytes; writes nothing where there is no whole word.
+pub fn put_word_at(bytes: &mut [u8], k: usize, word: u32)
+    ensures { λ _. ⌜ now (bytes .exit) ≡ putWords 0 (set (wholeWords (now (bytes .entry))) k word) (now (bytes .entry)) ⌝ }
+{
+    if k < bytes.len() / 4 {
+        put_word(bytes, k, word);
+    }
+}
+
+// Puts the words into the front of the bytes, as many as fit. The bytes after them keep their value.
 pub fn put_words(words: &[u32], bytes: &mut [u8])
     ensures { λ _. ⌜ now (bytes .exit) ≡ putWords 0 (take (length (now (bytes .entry)) / 4) (now (words .entry))) (now (bytes .entry)) ⌝ }
 {

@@ -2,7 +2,7 @@
 use Rattle.types.specs.Means.{bytesOf}
 use Rattle.head.specs.Heads.{between}
 use Rattle.build.specs.Means.{payloadsMeans, joinedMeans}
-use Rattle.build.specs.Steps.{foldRefs, caseLook, memberLook, noPayloads, addCase, payloadsRow}
+use Rattle.build.specs.Steps.{foldRefs, caseLook, memberLook, noPayloads, addIfPayload, payloadsRow}
 use denote.Ref.{now}
 use mathlib.Core.Path.{_≡_, sym, ap, _∙_}
 use Prim.Native.Nat.{_-_, _≤_}
@@ -14,7 +14,7 @@ use Rattle.build.proofs.cases.cases_row.Statement.{statement}
 use Rattle.build.proofs.cases.cases_row.Tie as tie
 
 abbrev Inv-loop : tie.InvT-loop
-Inv-loop words first end table index kind size payloads₀ at₀ payloads at = (first ≤ at) × (at ≤ end) × (end ≤ length words) × (foldRefs (caseLook (memberLook table (index .0))) addCase (between words at end) (payloadsMeans payloads) (payloadsRow kind (bytesOf size)) ≡ foldRefs (caseLook (memberLook table (index .0))) addCase (between words first end) noPayloads (payloadsRow kind (bytesOf size)))
+Inv-loop words first end table index kind size payloads₀ at₀ payloads at = (first ≤ at) × (at ≤ end) × (end ≤ length words) × (foldRefs (caseLook (memberLook table (index .0))) addIfPayload (between words at end) (payloadsMeans payloads) (payloadsRow kind (bytesOf size)) ≡ foldRefs (caseLook (memberLook table (index .0))) addIfPayload (between words first end) noPayloads (payloadsRow kind (bytesOf size)))
 
 abbrev μ-loop : tie.MeasureT-loop
 μ-loop words first end table index kind size payloads₀ at₀ payloads at = end - at
@@ -47,7 +47,7 @@ returns c =
     let look = caseLook (memberLook (now (a .table)) (a .index .0)) in
     let row = payloadsRow (a .kind) (bytesOf (a .size)) in
     let l = c .before .before .before .before .before .loop in
-    sym (stop look addCase row (now (a .words)) (l .at) (a .end) (payloadsMeans (l .payloads)) 4 (sym (c .before .before .add-case .ensures) ∙ ap joinedMeans (c .enum-told .given .1)) (omega arith) (omega arith)) ∙ l .inv .3
+    sym (stop look addIfPayload row (now (a .words)) (l .at) (a .end) (payloadsMeans (l .payloads)) 4 (sym (c .before .before .add-case .ensures) ∙ ap joinedMeans (c .enum-told .given .1)) (omega arith) (omega arith)) ∙ l .inv .3
 
 enum-known-more : tie.Need-enum-known-more Inv-loop μ-loop
 enum-known-more c = search needs
@@ -67,7 +67,7 @@ loop-again c =
       omega arith,
       omega arith,
       omega arith,
-      sym (turn look addCase row (now (a .words)) (l .at) (a .end) (payloadsMeans (l .payloads)) _ (sym (c .before .before .before .add-case .ensures) ∙ ap joinedMeans (c .before .more .given .1)) (omega arith) (omega arith)) ∙ l .inv .3,
+      sym (turn look addIfPayload row (now (a .words)) (l .at) (a .end) (payloadsMeans (l .payloads)) _ (sym (c .before .before .before .add-case .ensures) ∙ ap joinedMeans (c .before .more .given .1)) (omega arith) (omega arith)) ∙ l .inv .3,
     )
 
 row-requires : tie.Need-row-requires Inv-loop μ-loop
@@ -79,7 +79,7 @@ returns-2 c =
     let look = caseLook (memberLook (now (a .table)) (a .index .0)) in
     let row = payloadsRow (a .kind) (bytesOf (a .size)) in
     let l = c .before .before .loop in
-    c .row .ensures ∙ sym (over look addCase row (now (a .words)) (l .at) (a .end) (payloadsMeans (l .payloads)) (omega arith)) ∙ l .inv .3
+    c .row .ensures ∙ sym (over look addIfPayload row (now (a .words)) (l .at) (a .end) (payloadsMeans (l .payloads)) (omega arith)) ∙ l .inv .3
 
 pub cases-row-spec : {M : Type 1} → statement M
 cases-row-spec =

@@ -1,6 +1,6 @@
 -- A bad reference, or both extents and the repeated types.
 use Rattle.canon.specs.Layout.{Memory, mem32, mem64, both}
-use Rattle.canon.specs.Row.{noInner}
+use Rattle.canon.specs.Row.{noInner, infoLayout}
 use denote.Ref.{now}
 use Prim.Native.Nat.{_+_, _*_}
 use lib.ListN.{getD}
@@ -11,7 +11,7 @@ use Rattle.flat_types.specs.Lists.{unpacked, packed, memoryWords, wordsIn}
 use Rattle.table.specs.Means.{infoMeans, foundMeans}
 use Rattle.types.specs.Extents.{extentAt}
 use Rattle.types.specs.Means.{extentsMeans}
-use Rattle.build.specs.Steps.{pairOf, infoLayout, infoFlat, memberLook}
+use Rattle.build.specs.Steps.{pairOf, infoFlat, memberLook}
 use Rattle.build.proofs.Wording.{flat-kept, fit-same, then-is}
 use Rattle.build.specs.Kinds.{fixedRow}
 use mathlib.Core.Path.{_≡_, refl, sym, ap, _∙_}

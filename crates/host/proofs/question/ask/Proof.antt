@@ -6,41 +6,29 @@ use Rattle.host.proofs.question.ask.Tie as tie
 enum-known-question : tie.Need-enum-known-question
 enum-known-question c = search needs
 
-lampughjata-type-requires : tie.Need-lampughjata-type-requires
-lampughjata-type-requires c κs = search needs
+lampughjata-flatten-requires : tie.Need-lampughjata-flatten-requires
+lampughjata-flatten-requires c κs = search needs
 
 enum-known-question-2 : tie.Need-enum-known-question-2
 enum-known-question-2 c = search needs
 
-lampughjata-size-align-requires : tie.Need-lampughjata-size-align-requires
-lampughjata-size-align-requires c κs = search needs
+lampughjata-lowering-requires : tie.Need-lampughjata-lowering-requires
+lampughjata-lowering-requires c κs = search needs
 
 enum-known-question-3 : tie.Need-enum-known-question-3
 enum-known-question-3 c = search needs
 
-lampughjata-flatten-requires : tie.Need-lampughjata-flatten-requires
-lampughjata-flatten-requires c κs = search needs
+lampughjata-lifting-requires : tie.Need-lampughjata-lifting-requires
+lampughjata-lifting-requires c κs = search needs
 
 enum-known-question-4 : tie.Need-enum-known-question-4
 enum-known-question-4 c = search needs
 
-lampughjata-lowering-requires : tie.Need-lampughjata-lowering-requires
-lampughjata-lowering-requires c κs = search needs
-
-enum-known-question-5 : tie.Need-enum-known-question-5
-enum-known-question-5 c = search needs
-
-lampughjata-lifting-requires : tie.Need-lampughjata-lifting-requires
-lampughjata-lifting-requires c κs = search needs
-
-enum-known-question-6 : tie.Need-enum-known-question-6
-enum-known-question-6 c = search needs
-
 lampughjata-async-start-requires : tie.Need-lampughjata-async-start-requires
 lampughjata-async-start-requires c κs = search needs
 
-enum-known-question-7 : tie.Need-enum-known-question-7
-enum-known-question-7 c = search needs
+enum-known-question-5 : tie.Need-enum-known-question-5
+enum-known-question-5 c = search needs
 
 lampughjata-async-return-requires : tie.Need-lampughjata-async-return-requires
 lampughjata-async-return-requires c κs = search needs
@@ -52,46 +40,36 @@ lampughjata-contains-borrow-requires : tie.Need-lampughjata-contains-borrow-requ
 lampughjata-contains-borrow-requires c κs = search needs
 
 returns : tie.Need-returns
-returns c = rw (c .before .before .question .given .1) (c .lampughjata-type .ensures)
+returns c = rw (c .before .before .question .given .1) (c .lampughjata-flatten .ensures)
 
 returns-2 : tie.Need-returns-2
-returns-2 c = rw (c .before .before .question2 .given .1) (c .lampughjata-size-align .ensures)
+returns-2 c = rw (c .before .before .question2 .given .1) (c .lampughjata-lowering .ensures)
 
 returns-3 : tie.Need-returns-3
-returns-3 c = rw (c .before .before .question3 .given .1) (c .lampughjata-flatten .ensures)
+returns-3 c = rw (c .before .before .question3 .given .1) (c .lampughjata-lifting .ensures)
 
 returns-4 : tie.Need-returns-4
-returns-4 c = rw (c .before .before .question4 .given .1) (c .lampughjata-lowering .ensures)
+returns-4 c = rw (c .before .before .question4 .given .1) (c .lampughjata-async-start .ensures)
 
 returns-5 : tie.Need-returns-5
-returns-5 c = rw (c .before .before .question5 .given .1) (c .lampughjata-lifting .ensures)
+returns-5 c = rw (c .before .before .question5 .given .1) (c .lampughjata-async-return .ensures)
 
 returns-6 : tie.Need-returns-6
-returns-6 c = rw (c .before .before .question6 .given .1) (c .lampughjata-async-start .ensures)
-
-returns-7 : tie.Need-returns-7
-returns-7 c = rw (c .before .before .question7 .given .1) (c .lampughjata-async-return .ensures)
-
-returns-8 : tie.Need-returns-8
-returns-8 c = rw (c .before .enum-told .given .1) (c .lampughjata-contains-borrow .ensures)
+returns-6 c = rw (c .before .enum-told .given .1) (c .lampughjata-contains-borrow .ensures)
 
 pub ask-spec : {M : Type 1} → statement M
 ask-spec =
     tie.close
     (tie.spec
     enum-known-question
-    lampughjata-type-requires
-    enum-known-question-2
-    lampughjata-size-align-requires
-    enum-known-question-3
     lampughjata-flatten-requires
-    enum-known-question-4
+    enum-known-question-2
     lampughjata-lowering-requires
-    enum-known-question-5
+    enum-known-question-3
     lampughjata-lifting-requires
-    enum-known-question-6
+    enum-known-question-4
     lampughjata-async-start-requires
-    enum-known-question-7
+    enum-known-question-5
     lampughjata-async-return-requires
     enum-told
     lampughjata-contains-borrow-requires
@@ -100,6 +78,4 @@ ask-spec =
     returns-3
     returns-4
     returns-5
-    returns-6
-    returns-7
-    returns-8)
+    returns-6)

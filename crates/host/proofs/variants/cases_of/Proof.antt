@@ -8,7 +8,7 @@ use lib.ListN.{length}
 use denote.Ref.{now}
 use Rattle.canon.specs.Row.{Abi}
 use Rattle.types.specs.States.{casesMeans, noCases, addCases}
-use Rattle.host.specs.Infos.{caseAt, several, casesOf}
+use Rattle.host.specs.Infos.{caseAt, several, lentCases}
 use Rattle.host.proofs.Several.{one-more, no-more}
 use Rattle.host.proofs.variants.cases_of.Statement.{statement}
 use Rattle.host.proofs.variants.cases_of.Tie as tie
@@ -17,7 +17,7 @@ abbrev item : List ℕ → ℕ → Option Abi
 item words i = caseAt words (6 * i)
 
 abbrev Inv-loop : tie.InvT-loop
-Inv-loop words n state₀ j₀ state j = (j ≤ n) × (n ≡ length words / 6) × (addCases (casesMeans state) (several (item words) j (n - j)) ≡ addCases noCases (casesOf words))
+Inv-loop words n state₀ j₀ state j = (j ≤ n) × (n ≡ length words / 6) × (addCases (casesMeans state) (several (item words) j (n - j)) ≡ addCases noCases (lentCases words))
 
 abbrev μ-loop : tie.MeasureT-loop
 μ-loop words n state₀ j₀ state j = n - j

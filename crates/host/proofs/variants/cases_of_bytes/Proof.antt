@@ -10,7 +10,7 @@ use Rattle.canon.specs.Row.{Abi}
 use Rattle.types.specs.States.{casesMeans, noCases, addCases}
 use Rattle.words.specs.Words.{wholeWords}
 use Rattle.words.proofs.Laws.{length-whole}
-use Rattle.host.specs.Infos.{caseAt, several, casesOf}
+use Rattle.host.specs.Infos.{caseAt, several, lentCases}
 use Rattle.host.proofs.Several.{one-more, no-more}
 use Rattle.host.proofs.variants.cases_of_bytes.Statement.{statement}
 use Rattle.host.proofs.variants.cases_of_bytes.Tie as tie
@@ -19,7 +19,7 @@ abbrev item : List ℕ → ℕ → Option Abi
 item bytes i = caseAt (wholeWords bytes) (6 * i)
 
 abbrev Inv-loop : tie.InvT-loop
-Inv-loop bytes n state₀ j₀ state j = (j ≤ n) × (n ≡ length bytes / 4 / 6) × (addCases (casesMeans state) (several (item bytes) j (n - j)) ≡ addCases noCases (casesOf (wholeWords bytes)))
+Inv-loop bytes n state₀ j₀ state j = (j ≤ n) × (n ≡ length bytes / 4 / 6) × (addCases (casesMeans state) (several (item bytes) j (n - j)) ≡ addCases noCases (lentCases (wholeWords bytes)))
 
 abbrev μ-loop : tie.MeasureT-loop
 μ-loop bytes n state₀ j₀ state j = n - j

@@ -13,7 +13,7 @@ use Rattle.canon.specs.Signature.{flatAll}
 use Rattle.types.specs.Means.{memoryOf, numberOf}
 use Rattle.flat_types.specs.Lists.{packedTo}
 use Rattle.questions.specs.Gathers.{together}
-use Rattle.questions.specs.Means.{nextMeans, gatheringMeans}
+use Rattle.questions.specs.Means.{oneMeans, gatheringMeans}
 use Rattle.questions.specs.Steps.{alone, withMore}
 use Rattle.questions.proofs.References.{part-is, Read, begins, goes-on, stops, ends}
 use Rattle.questions.proofs.WellFormed.{with-more}
@@ -62,7 +62,7 @@ returns c = let a = c .before .before .before .before .before .before .before .b
     let w = c .before .why .given in
     let look = read (now (a .table)) (a .n) in
     rw (stops look (now (a .references)) (alone (memoryOf (a .memory))) (l .k) (l .inv .1 .0) (numberOf (w .0 .0)) (l .inv .1 .1)
-    (sym (ap nextMeans (w .1)) ∙ c .before .before .before .read-next .ensures) (c .before .before .before .before .before .loop-test .taken))
+    (sym (ap oneMeans (w .1)) ∙ c .before .before .before .read-next .ensures) (c .before .before .before .before .before .loop-test .taken))
 
 add-k : tie.Need-add-k Inv-loop μ-loop
 add-k c = search needs
@@ -77,7 +77,7 @@ loop-again c = let a = c .before .before .before .before .before .before .before
     let m = memoryOf (a .memory) in
     let look = read (now (a .table)) (a .n) in
     let done = l .inv .1 .0 in
-    let r = part-is (alone m) (look (getD (now (a .references)) (l .k) 0)) (gatheringMeans (g .0 .0)) (sym (ap nextMeans (g .1)) ∙ c .before .before .before .before .read-next .ensures) in (
+    let r = part-is (alone m) (look (getD (now (a .references)) (l .k) 0)) (gatheringMeans (g .0 .0)) (sym (ap oneMeans (g .1)) ∙ c .before .before .before .before .read-next .ensures) in (
       search needs,
       (
         done ++ r .0 ∷ [],

@@ -8,13 +8,13 @@ use denote.Ref.{now}
 use lib.ListN.{length, getD, take, length-set}
 use Rattle.canon.specs.Answer.{then}
 use Rattle.canon.specs.Layout.{Layout, starts}
-use Rattle.canon.specs.Row.{Info}
+use Rattle.canon.specs.Row.{Info, infoLayout}
 use Rattle.canon.specs.Question.{read, layoutsIn}
 use Rattle.canon.proofs.Questions.{read-aligned}
 use Rattle.canon.proofs.Tests.{impossible}
 use Rattle.types.specs.Means.{memoryOf, numberOf, layoutMeans}
 use Rattle.questions.specs.Means.{memberMeans}
-use Rattle.questions.specs.Steps.{infoLayout, nextPlace}
+use Rattle.questions.specs.Steps.{nextPlace}
 use Rattle.questions.proofs.References.{part-is, Read, begins, goes-on, stops, ends}
 use Rattle.questions.proofs.Members.{layouts-more, Stands, Staged, nothing-stands, stands-more, staged-more, finish-is, placed-is}
 use borrow.Author.Needs.{needs}

@@ -3,12 +3,13 @@ use mathlib.Core.Path.{_≡_}
 use Rattle.canon.specs.Layout.{both, within}
 use Rattle.canon.specs.Reach.{joinReach}
 use Rattle.canon.proofs.Reaches.{word-back}
+use Rattle.canon.specs.Row.{infoLayout}
 use Rattle.types.specs.Extents.{widest}
 use Rattle.types.specs.Means.{layoutsMeans}
 use Rattle.flat_types.specs.Lists.{bothWords}
 use Rattle.flat_types.specs.Places.{joined}
 use Rattle.table.specs.Means.{infoMeans, reachMeans}
-use Rattle.build.specs.Steps.{infoLayout, infoFlat, addPayload}
+use Rattle.build.specs.Steps.{infoFlat, addPayload}
 use Rattle.build.proofs.Wording.{flat-kept}
 use borrow.Author.Needs.{needs}
 use Rattle.build.proofs.cases.Payloads.add.Statement.{statement}

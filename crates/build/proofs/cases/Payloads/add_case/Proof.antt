@@ -1,6 +1,6 @@
 -- A bad reference, no payload, or one more.
 use Rattle.canon.specs.Answer.{andThen}
-use Rattle.build.specs.Steps.{addCase}
+use Rattle.build.specs.Steps.{addIfPayload}
 use borrow.Author.Needs.{needs}
 use Rattle.build.proofs.cases.Payloads.add_case.Statement.{statement}
 use Rattle.build.proofs.cases.Payloads.add_case.Tie as tie
@@ -21,17 +21,17 @@ add-requires : tie.Need-add-requires
 add-requires c κs = search needs
 
 returns : tie.Need-returns
-unfolding andThen addCase
+unfolding andThen addIfPayload
 returns c = simp
     (← c .before .before .case-at .ensures, c .enum-told .given .1)
 
 returns-2 : tie.Need-returns-2
-unfolding andThen addCase
+unfolding andThen addIfPayload
 returns-2 c = simp
     (← c .before .before .case-at .ensures, c .enum-told2 .given .1)
 
 returns-3 : tie.Need-returns-3
-unfolding andThen addCase
+unfolding andThen addIfPayload
 returns-3 c = simp (
   c .add .ensures,
   ← c .before .before .before .before .case-at .ensures,

@@ -5,8 +5,8 @@ use lib.Seq.{length-take-le}
 use Rattle.words.specs.Words.{wholeWords}
 use Rattle.host.proofs.Decoded.{front, question-first}
 use borrow.Author.Needs.{needs}
-use Rattle.host.proofs.question.ask_bytes.Statement.{statement}
-use Rattle.host.proofs.question.ask_bytes.Tie as tie
+use Rattle.host.proofs.question.ask_long.Statement.{statement}
+use Rattle.host.proofs.question.ask_long.Tie as tie
 
 slice-aggregate-words-of : tie.Need-slice-aggregate-words-of
 slice-aggregate-words-of c = search needs
@@ -61,8 +61,8 @@ returns c =
     )
     (question-first (a .question) (wholeWords (now (a .table))) (a .rows) (wholeWords (now (a .first))) (wholeWords (now (a .second))))
 
-pub ask-bytes-spec : {M : Type 1} → statement M
-ask-bytes-spec =
+pub ask-long-spec : {M : Type 1} → statement M
+ask-long-spec =
     tie.close
     (tie.spec
     slice-aggregate-words-of

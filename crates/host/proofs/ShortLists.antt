@@ -1,0 +1,136 @@
+-- What is asked of the picked rows by the new names is what is asked of the lent table by the references.
+use mathlib.Core.Path.{_≡_, refl, sym, ap, _∙_}
+use mathlib.Core.Bool.{Bool, true, false}
+use mathlib.Core.List.{List, [], _∷_, _++_}
+use Prim.Native.Nat.{ℕ, suc, _≤_, _<_, min}
+use native.Mathlib.Omega.{arith}
+use lib.Dec.{ltb}
+use lib.ListN.{length, getD, take, drop, length-take}
+use borrow.Author.Tests.{le-ltb}
+use Rattle.canon.specs.Answer.{Leaf, Answer, refused, then, unless, badRow}
+use Rattle.canon.specs.Row.{Info}
+use Rattle.canon.specs.Table.{capacity}
+use Rattle.canon.specs.Description.{mostWords}
+use Rattle.canon.specs.Layout.{Memory}
+use Rattle.canon.specs.Question.{read, infos, tooMany, noTable, ask, askTwo, typeAnswer, borrowAnswer, layoutsIn, placed, placing, placementAnswer, offsetsAfter}
+use Rattle.canon.specs.Signature.{flattenAnswer, asyncStartAnswer, asyncReturnAnswer}
+use Rattle.host.specs.Numbers.{refusalNumber}
+use Rattle.host.specs.Picked.{readPicked, Names}
+use Rattle.host.specs.Questions.{questionNumber}
+use Rattle.host.proofs.Picked.{no-rows-is}
+use Rattle.canon.proofs.Capped.{below-first, offsets-length, buffer-front}
+use Rattle.host.specs.declared.question.Question.{Question}
+use Rattle.host.specs.declared.question.Question.the-variants as question
+
+-- at most sixteen references are not too many
+few : (ws : List ℕ) → length ws ≤ 16 → tooMany ws ≡ false
+few ws h = le-ltb mostWords (length ws) (omega arith)
+
+-- A table that is not there
+
+pub ask-missing :
+    {A : Type 0} (t : List ℕ) (n : ℕ) (b s : Bool) (ws : List ℕ) (k : List Info → Answer A) → length ws ≤ 16 → noTable t n ≡ true → ask t n b s ws k ≡ refused badRow 0
+unfolding ask unless
+ask-missing t n b s ws k h e = rw (few ws h, e)
+
+askTwo-missing :
+    {A : Type 0} (t : List ℕ) (n : ℕ) (vs ws : List ℕ) (k : List Info → List Info → Answer A) → length vs ≤ 16 → length ws ≤ 16 → noTable t n ≡ true →
+    askTwo t n vs ws k ≡ refused badRow 0
+unfolding askTwo unless
+askTwo-missing t n vs ws k h l e = rw (few vs h, few ws l, e)
+
+pub type-missing : (t : List ℕ) (n w : ℕ) → noTable t n ≡ true → typeAnswer t n w ≡ refused badRow 0
+unfolding typeAnswer unless
+type-missing t n w e = rw e
+
+pub placing-missing :
+    (memory : Memory) (t : List ℕ) (n : ℕ) (ws : List ℕ) (room : ℕ) → length ws ≤ 16 → noTable t n ≡ true → placing memory t n ws room ≡ refused badRow 0
+unfolding placing
+placing-missing memory t n ws room h e = ask-missing t n false (ltb room (length ws)) ws (λ is′. placed (layoutsIn memory is′)) h e
+
+pub question-missing :
+    (q : Question) (t : List ℕ) (n : ℕ) (vs ws : List ℕ) → length vs ≤ 16 → length ws ≤ 16 → noTable t n ≡ true → questionNumber q t n vs ws ≡ refusalNumber badRow 0
+unfolding flattenAnswer asyncStartAnswer asyncReturnAnswer borrowAnswer then
+question-missing (question.Flatten m max) t n vs ws h l e = rw (ask-missing t n _ _ vs _ h e)
+question-missing (question.Lowering m a) t n vs ws h l e = rw (ask-missing t n _ _ vs _ h e)
+question-missing (question.Lifting m a) t n vs ws h l e = rw (ask-missing t n _ _ vs _ h e)
+question-missing (question.AsyncStart m a r k) t n vs ws h l e = rw (askTwo-missing t n vs ws _ h l e)
+question-missing (question.AsyncReturn m a r b k) t n vs ws h l e = rw (askTwo-missing t n vs ws _ h l e)
+question-missing question.ContainsBorrow t n vs ws h l e = rw (ask-missing t n _ _ vs _ h e)
+
+-- A table that is there
+
+infos-alike :
+    (f g : ℕ → Leaf Info) (i : ℕ) (us ws : List ℕ) → length us ≡ length ws → ((k : ℕ) → k < length ws → f (getD us k 0) ≡ g (getD ws k 0)) →
+    infos f i us ≡ infos g i ws
+unfolding infos
+infos-alike f g i [] [] e h = refl
+infos-alike f g i [] (w ∷ ws) e h = absurd (omega arith)
+infos-alike f g i (u ∷ us) [] e h = absurd (omega arith)
+infos-alike f g i (u ∷ us) (w ∷ ws) e h =
+    rw (h 0 (omega arith), infos-alike f g (suc i) us ws (omega arith) (λ k l. h (suc k) (omega arith)))
+
+-- the rooms of the local tables
+
+pub room-1 : capacity 16 ≡ 1
+unfolding capacity
+room-1 = refl
+
+pub room-16 : capacity 256 ≡ 16
+unfolding capacity
+room-16 = refl
+
+pub room-32 : capacity 512 ≡ 32
+unfolding capacity
+room-32 = refl
+
+module _ (p t : List ℕ) (m n : ℕ) (rows : capacity (length p) ≡ m) (there : noTable t n ≡ false) where
+  mine : noTable p m ≡ false
+  mine = rw (← rows) (sym (no-rows-is (length p) (capacity (length p)) p refl) ∙ le-ltb (capacity (length p)) (capacity (length p)) (omega arith))
+
+  pub type-alike : (v w : ℕ) → readPicked p v ≡ read t n w → typeAnswer p m v ≡ typeAnswer t n w
+  unfolding typeAnswer unless
+  type-alike v w e = rw (mine, there, ← rows, e)
+
+  module _ (slot : ℕ) (us ws : List ℕ) (names : Names slot p us t n ws) (h : length ws ≤ 16) where
+    named : (i : ℕ) → infos (read p m) i us ≡ infos (read t n) i ws
+    named i = rw (← rows) (infos-alike (readPicked p) (read t n) i us ws (names .count) (λ k l. names .alike k l .1))
+
+    few-names : tooMany us ≡ false
+    few-names = few us (omega (arith, names .count))
+
+    pub ask-alike : {A : Type 0} (b s : Bool) (k : List Info → Answer A) → ask p m b s us k ≡ ask t n b s ws k
+    unfolding ask
+    ask-alike b s k = rw (few-names, few ws h, mine, there, named 0)
+
+    -- and so many words of a buffer are enough
+    placing-alike : (memory : Memory) (room : ℕ) → placing memory p m us (min 16 room) ≡ placing memory t n ws room
+    unfolding placing
+    placing-alike memory room =
+        ask-alike false (ltb (min 16 room) (length us)) (λ is′. placed (layoutsIn memory is′))
+        ∙ ap (λ (short : Bool). ask t n false short ws (λ is′. placed (layoutsIn memory is′))) (ap (ltb (min 16 room)) (names .count) ∙ below-first 16 room (length ws) h)
+
+    pub placement-alike : (memory : Memory) (room : ℕ) → placementAnswer memory p m us (min 16 room) ≡ placementAnswer memory t n ws room
+    unfolding placementAnswer
+    placement-alike memory room = rw (placing-alike memory room)
+
+    pub offsets-alike : (memory : Memory) (out x : List ℕ) → x ≡ offsetsAfter memory p m us (take 16 out) → x ++ drop 16 out ≡ offsetsAfter memory t n ws out
+    unfolding offsetsAfter
+    offsets-alike memory out x e =
+        rw (e, length-take 16 out, placing-alike memory (length out))
+        (buffer-front 16 (placing memory t n ws (length out)) out (λ q f. omega (arith, offsets-length memory t n ws (length out) q f)))
+
+  module _ (slot slot′ : ℕ) (us vs xs ws : List ℕ) (first : Names slot p us t n vs) (second : Names slot′ p xs t n ws) (h : length vs ≤ 16) (l : length ws ≤ 16) where
+    askTwo-alike : {A : Type 0} (k : List Info → List Info → Answer A) → askTwo p m us xs k ≡ askTwo t n vs ws k
+    unfolding askTwo
+    askTwo-alike k =
+        rw (few-names slot us vs first h, few-names slot′ xs ws second l, few vs h, few ws l, mine, there, named slot us vs first h 0, first .count, named slot′ xs ws second l (length vs))
+
+    pub question-alike : (q : Question) → questionNumber q p m us xs ≡ questionNumber q t n vs ws
+    unfolding flattenAnswer asyncStartAnswer asyncReturnAnswer borrowAnswer
+    question-alike (question.Flatten m max) = rw (ask-alike slot us vs first h)
+    question-alike (question.Lowering m a) = rw (ask-alike slot us vs first h)
+    question-alike (question.Lifting m a) = rw (ask-alike slot us vs first h)
+    question-alike (question.AsyncStart m a r k) = rw askTwo-alike
+    question-alike (question.AsyncReturn m a r b k) = rw (second .count, askTwo-alike)
+    question-alike question.ContainsBorrow = rw (ask-alike slot us vs first h)
