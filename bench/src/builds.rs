@@ -25,9 +25,12 @@ const ALL_KINDS: &str = "all kinds in turn";
 const RANDOM_KINDS: &str = "random kinds";
 const RECORDS: &str = "records of 14";
 
+/// How many random descriptions are built in turn.
+const RANDOM: u64 = 16;
+
 pub fn run(report: &mut Report) {
     // Together, since the cost of one definition is compared between them.
-    let mixed = [10, 100, 1_000].map(inputs::mixed);
+    let mixed = [10, 100, 1_000].map(|many| [inputs::mixed(many)]);
     let [ten, hundred, thousand] = &mixed;
     let mut inputs = [ten, hundred, thousand].map(|words| Input::new(ALL_KINDS, words));
     let [few, _, many] = report.time_together(inputs.each_mut().map(Input::group));
@@ -37,7 +40,10 @@ pub fn run(report: &mut Report) {
         report.note(&format!("  {name:<36} {growth:>12.2}"));
     }
     report.note("");
-    let (random, records) = (inputs::random(1_000), inputs::records(1_000));
+    let random: Vec<_> = (0..RANDOM)
+        .map(|seed| inputs::random(1_000, seed))
+        .collect();
+    let records = [inputs::records(1_000)];
     let random = report.time(Input::new(RANDOM_KINDS, &random).group());
     let records = report.time(Input::new(RECORDS, &records).group());
     for (kinds, timed, most) in [
@@ -58,26 +64,38 @@ pub fn run(report: &mut Report) {
     }
 }
 
-/// A description, and what its contenders work with.
+/// Descriptions that are built in turn, each of so many definitions, and what their contenders work with.
 struct Input<'a> {
-    words: &'a [u32],
+    descriptions: &'a [Vec<u32>],
     n: u32,
     kinds: &'static str,
-    parsed: Parsed,
+    parsed: Vec<Parsed>,
     arithmetic: Arithmetic,
     plain_table: Vec<u32>,
     port_table: Vec<u32>,
 }
 
 impl<'a> Input<'a> {
-    fn new(kinds: &'static str, words: &'a [u32]) -> Input<'a> {
+    fn new(kinds: &'static str, descriptions: &'a [Vec<u32>]) -> Input<'a> {
         let (mut plain_table, mut port_table) = (vec![0; TABLE], vec![0; TABLE]);
-        let n = check(words, &mut plain_table, &mut port_table);
+        let counts = descriptions
+            .iter()
+            .map(|words| check(words, &mut plain_table, &mut port_table));
+        let n = counts.reduce(|n, m| {
+            if n == m {
+                n
+            } else {
+                panic!("{n} and {m} definitions")
+            }
+        });
         Input {
-            words,
-            n,
+            descriptions,
+            n: n.expect("a description"),
             kinds,
-            parsed: Original::parse(words),
+            parsed: descriptions
+                .iter()
+                .map(|words| Original::parse(words))
+                .collect(),
             arithmetic: Arithmetic::new(),
             plain_table,
             port_table,
@@ -85,30 +103,49 @@ impl<'a> Input<'a> {
     }
 
     fn group(&mut self) -> Group<'_> {
-        let words = self.words;
-        let what = format!(
-            "build, {} definitions, {} ({} words)",
-            self.n,
-            self.kinds,
-            words.len()
-        );
+        let words: usize = self.descriptions.iter().map(Vec::len).sum();
+        let what = match self.descriptions.len() {
+            1 => format!(
+                "build, {} definitions, {} ({words} words)",
+                self.n, self.kinds
+            ),
+            many => format!(
+                "build, {} definitions, {} ({many} descriptions in turn)",
+                self.n, self.kinds
+            ),
+        };
+        let Input {
+            parsed,
+            arithmetic,
+            plain_table,
+            port_table,
+            ..
+        } = self;
+        let mut parsed = parsed.iter().cycle();
+        let [mut first, mut second, mut third] =
+            [self.descriptions; 3].map(|all| all.iter().cycle());
         let contenders = vec![
-            Contender::new(NAMES[WHOLE], || {
-                black_box(Original::build_parsed(black_box(&self.parsed)));
+            Contender::new(NAMES[WHOLE], move || {
+                black_box(Original::build_parsed(black_box(next(&mut parsed))));
             }),
-            Contender::new(NAMES[ARITHMETIC], || {
-                black_box(self.arithmetic.build(black_box(words)));
+            Contender::new(NAMES[ARITHMETIC], move || {
+                black_box(arithmetic.build(black_box(next(&mut first))));
             }),
-            Contender::new(NAMES[PLAIN], || {
+            Contender::new(NAMES[PLAIN], move || {
                 // SAFETY: `check` saw the description accepted and the rows right.
-                black_box(unsafe { plain::build(black_box(words), &mut self.plain_table) });
+                black_box(unsafe { plain::build(black_box(next(&mut second)), plain_table) });
             }),
-            Contender::new(NAMES[PORT], || {
-                black_box(port::words::build(black_box(words), &mut self.port_table));
+            Contender::new(NAMES[PORT], move || {
+                black_box(port::words::build(black_box(next(&mut third)), port_table));
             }),
         ];
         Group { what, contenders }
     }
+}
+
+/// Of what goes round and has no end.
+fn next<T>(round: &mut impl Iterator<Item = T>) -> T {
+    round.next().expect("there is one at least")
 }
 
 /// Plain words and port must write the original's rows, or their times mean nothing. How many rows.

@@ -26,10 +26,10 @@ pub fn mixed(definitions: u32) -> Vec<u32> {
     words
 }
 
-/// Definitions of random kinds over random scalars and the definitions shortly before: no two inputs of a
-/// branch alike, as a processor meets them in a stranger's description.
-pub fn random(definitions: u32) -> Vec<u32> {
-    let mut random = Random(0x9E37_79B9_7F4A_7C15);
+/// Definitions of random kinds over random scalars and the definitions shortly before, another description for each
+/// seed: a processor that has met one does not know the next by heart.
+pub fn random(definitions: u32, seed: u64) -> Vec<u32> {
+    let mut random = Random(0x9E37_79B9_7F4A_7C15 ^ seed);
     let mut words = Vec::new();
     for index in 0..definitions {
         let kind = 1 + random.below(10);

@@ -8,6 +8,7 @@
 //! nothing is printed yet. `run` starts this.
 
 mod builds;
+mod infos;
 mod inputs;
 mod over_bytes;
 mod plain;
@@ -35,6 +36,7 @@ fn main() -> ExitCode {
     builds::run(&mut report);
     questions::run(&mut report);
     over_bytes::run(&mut report);
+    infos::run(&mut report);
     if let Err(error) = report.end().write(&file) {
         eprintln!("bench: the times cannot be kept: {error}");
         return ExitCode::from(2);

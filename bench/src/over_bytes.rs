@@ -1,6 +1,6 @@
 //! Calls over bytes beside the same calls over words, at the sizes of a small description.
 use crate::inputs::{SMALL, SMALL_REFERENCES};
-use crate::port::{bytes, words};
+use crate::port::{bytes, bytes_of, words};
 use crate::report::{Aim, Group, Report};
 use crate::table::ROW;
 use crate::timing::Contender;
@@ -75,8 +75,4 @@ fn beside(
     let what = what.to_string();
     let timed = report.time(Group { what, contenders });
     report.aim(over, timed.ratio(0, 1), Aim::AtMost(most));
-}
-
-fn bytes_of(words: &[u32]) -> Vec<u8> {
-    words.iter().flat_map(|word| word.to_le_bytes()).collect()
 }

@@ -38,12 +38,27 @@ macro_rules! calls_over {
                 let (list, list_len) = (references.as_ptr(), references.len());
                 unsafe { port::flatten(0, 16, table, table_len, rows, list, list_len) }
             }
+
+            /// The size in the 32-bit memory.
+            pub fn record(infos: &[$unit]) -> u64 {
+                unsafe { port::record(infos.as_ptr(), infos.len(), 0) }
+            }
+
+            /// The size in the 32-bit memory.
+            pub fn variant(cases: &[$unit]) -> u64 {
+                unsafe { port::variant(cases.as_ptr(), cases.len(), 0) }
+            }
         }
     };
 }
 
 calls_over!(u32, words);
 calls_over!(u8, bytes);
+
+/// Words as the calls over bytes take them.
+pub fn bytes_of(words: &[u32]) -> Vec<u8> {
+    words.iter().flat_map(|word| word.to_le_bytes()).collect()
+}
 
 /// The answer of a placement: the size in bits 0 to 31, the alignment in bits 32 to 39.
 pub fn placed(size: u32, align: u32) -> u64 {

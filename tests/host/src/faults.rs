@@ -29,6 +29,8 @@ pub enum Fault {
     LongTable,
     /// The last byte of a buffer of more than 16,384 words is changed over bytes.
     LongBuffer,
+    /// The seventeenth reference of a list is lost over bytes.
+    ShortList,
     /// A flat count of none is answered as 256.
     NoneAs256,
     /// An info whose flat count is above 255 is taken for one without a flat count.
@@ -43,7 +45,7 @@ pub enum Fault {
     OriginalList,
 }
 
-pub const FAULTS: [Fault; 17] = [
+pub const FAULTS: [Fault; 18] = [
     Fault::OffsetOneOff,
     Fault::PositionOneOff,
     Fault::TableWord,
@@ -55,6 +57,7 @@ pub const FAULTS: [Fault; 17] = [
     Fault::ByteTail,
     Fault::LongTable,
     Fault::LongBuffer,
+    Fault::ShortList,
     Fault::NoneAs256,
     Fault::LargeCount,
     Fault::OtherHalf,
@@ -75,6 +78,12 @@ impl Fault {
                 numbers[4] = numbers[4].min(255);
             }
             (Some(Fault::OtherHalf), Function::AsyncStart) => numbers[4] = 0,
+            (Some(Fault::ShortList), Function::Flatten) if call.cell == Cell::Byte => {
+                let list = &mut call.slices[1];
+                if list.len() / 4 == 17 {
+                    *list = &list[..64];
+                }
+            }
             _ => {}
         }
     }

@@ -10,9 +10,10 @@ mod random;
 mod short;
 mod sizes;
 mod tables;
+mod ways;
 
 /// A section's name and what it runs.
-pub const SECTIONS: [(&str, fn(&mut Run)); 13] = [
+pub const SECTIONS: [(&str, fn(&mut Run)); 14] = [
     ("01's examples", examples::run),
     ("leaves over numbers", leaves::numbers),
     ("leaves over infos", leaves::infos),
@@ -26,4 +27,5 @@ pub const SECTIONS: [(&str, fn(&mut Run)); 13] = [
     ("limits of questions", limits::questions),
     ("tables no build wrote", tables::run),
     ("longer than byte calls look at", beyond::run),
+    ("short and long over bytes", ways::run),
 ];
