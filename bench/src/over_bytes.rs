@@ -1,7 +1,7 @@
 //! Calls over bytes beside the same calls over words, at the sizes of a small description.
 use crate::inputs::{SMALL, SMALL_REFERENCES};
 use crate::port::{bytes, bytes_of, words};
-use crate::report::{Aim, Group, Report};
+use crate::report::{Aim, Group, Report, Timed};
 use crate::table::ROW;
 use crate::timing::Contender;
 use std::hint::black_box;
@@ -21,6 +21,10 @@ pub fn run(report: &mut Report) {
     let over_words = || words::type_of(&table, ROWS, black_box(REFERENCE), 0);
     let over_bytes = || bytes::type_of(&table_bytes, ROWS, black_box(REFERENCE), 0);
     beside(report, "type, 3 rows", 1.5, over_words, over_bytes);
+
+    let over_words = || words::size_align(&table, ROWS, black_box(REFERENCE));
+    let over_bytes = || bytes::size_align(&table_bytes, ROWS, black_box(REFERENCE));
+    time(report, "size_align, 3 rows", over_words, over_bytes);
 
     let over_words = || words::flatten(&table, ROWS, black_box(&references));
     let over_bytes = || bytes::flatten(&table_bytes, ROWS, black_box(&list));
@@ -52,14 +56,25 @@ pub fn run(report: &mut Report) {
     assert_eq!(built_bytes, bytes_of(&built), "the same table");
 }
 
-/// Both must answer alike, and no refusal.
 fn beside(
     report: &mut Report,
     what: &str,
     most: f64,
+    over_words: impl FnMut() -> u64,
+    over_bytes: impl FnMut() -> u64,
+) {
+    let timed = time(report, what, over_words, over_bytes);
+    let over = format!("{what}: bytes over words");
+    report.aim(over, timed.ratio(0, 1), Aim::AtMost(most));
+}
+
+/// Both must answer alike, and no refusal.
+fn time(
+    report: &mut Report,
+    what: &str,
     mut over_words: impl FnMut() -> u64,
     mut over_bytes: impl FnMut() -> u64,
-) {
+) -> Timed {
     let answer = over_words();
     assert_eq!(answer >> 56, 0, "{what} is refused");
     assert_eq!(over_bytes(), answer, "{what} over bytes");
@@ -71,8 +86,6 @@ fn beside(
             black_box(over_words());
         }),
     ];
-    let over = format!("{what}: bytes over words");
     let what = what.to_string();
-    let timed = report.time(Group { what, contenders });
-    report.aim(over, timed.ratio(0, 1), Aim::AtMost(most));
+    report.time(Group { what, contenders })
 }

@@ -1,5 +1,6 @@
-//! Plain arithmetic on words, as the least that such a build can cost: no refusals, no tests, not even
-//! of an index; sums wrap. It writes the same sixteen words as the port for a good description.
+//! Plain arithmetic on words, as the least that such a build can cost: no refusals, and no test, not even
+//! of an index, but whether a flat list passes 16 types; sums wrap. It writes the same sixteen words as the
+//! port for a good description.
 
 use crate::table::{cell, put_row};
 

@@ -21,6 +21,10 @@ macro_rules! calls_over {
                 unsafe { port::type_of(table.as_ptr(), table.len(), rows, reference, k) }
             }
 
+            pub fn size_align(table: &[$unit], rows: u32, reference: u32) -> u64 {
+                unsafe { port::size_align(0, table.as_ptr(), table.len(), rows, reference) }
+            }
+
             pub fn placement(
                 table: &[$unit],
                 rows: u32,
@@ -63,6 +67,11 @@ pub fn bytes_of(words: &[u32]) -> Vec<u8> {
 /// The answer of a placement: the size in bits 0 to 31, the alignment in bits 32 to 39.
 pub fn placed(size: u32, align: u32) -> u64 {
     u64::from(size) | u64::from(align) << 32
+}
+
+/// The answer of a size and alignment: in the same bits.
+pub fn layout((size, align): (u32, u32)) -> u64 {
+    placed(size, align)
 }
 
 /// The answer of a flatten: the types in bits 0 to 33, their count in bits 40 to 47.

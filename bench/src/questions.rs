@@ -13,6 +13,7 @@ pub fn run(report: &mut Report) {
         placement(report, many, least);
     }
     flatten(report);
+    size_align(report);
 }
 
 /// A table of 1,000 rows, and the original with the same types.
@@ -103,4 +104,38 @@ fn flatten(report: &mut Report) {
     let timed = report.time(Group { what, contenders });
     let ahead = "flatten of 6: the original over the port";
     report.aim(ahead, timed.ratio(0, 2), Aim::AtLeast(1.8));
+}
+
+/// Reference by reference, in the 32-bit memory.
+fn size_align(report: &mut Report) {
+    let (table, mut original) = table();
+    let references = inputs::references(ROWS as usize, ROWS);
+    let types = types_of(&mut original, &references);
+    for (reference, ty) in references.iter().zip(&types) {
+        let expected = original.size_align(false, ty);
+        let tested = tested::size_align(&table, ROWS, *reference);
+        assert_eq!(tested, Some(expected));
+        let answer = port::words::size_align(&table, ROWS, *reference);
+        assert_eq!(answer, port::layout(expected), "the port's layout");
+    }
+
+    let contenders = vec![
+        Contender::new("(a) the original", || {
+            for ty in black_box(&types) {
+                black_box(original.size_align(false, ty));
+            }
+        }),
+        Contender::new("(t) Rust with the same tests", || {
+            for reference in black_box(&references) {
+                black_box(tested::size_align(&table, ROWS, *reference));
+            }
+        }),
+        Contender::new("the port", || {
+            for reference in black_box(&references) {
+                black_box(port::words::size_align(&table, ROWS, *reference));
+            }
+        }),
+    ];
+    let what = "size_align of 1,000 references one by one, 1,000 rows".to_string();
+    report.time(Group { what, contenders });
 }

@@ -54,6 +54,16 @@ unsafe fn read(reference: u32, table: &[u32], n: u32) -> Option<Read> {
     })
 }
 
+/// Size and alignment in the 32-bit memory.
+pub fn size_align(table: &[u32], n: u32, reference: u32) -> Option<(u32, u32)> {
+    if n as usize > capacity(table.len()) {
+        return None;
+    }
+    // SAFETY: there is room for n rows.
+    let read = unsafe { read(reference, table, n) }?;
+    Some((read.size, read.align))
+}
+
 /// Offsets in the 32-bit memory, staged and copied once all is accepted; size and alignment.
 pub fn placement(table: &[u32], n: u32, references: &[u32], out: &mut [u32]) -> Option<(u32, u32)> {
     // A short list does not pay for clearing a long stage.

@@ -10,7 +10,7 @@ use lib.Dec.{ltb, eqb}
 use lib.ListN.{length, getD, take, drop, length-drop}
 use lib.Seq.{getD-take, getD-drop}
 use borrow.Author.Tests.{ltb-true, lt-leb}
-use Rattle.canon.specs.Answer.{Leaf, no, lift, lift2, badCount, andThen}
+use Rattle.canon.specs.Answer.{Leaf, no, mapOption, mapOption2, badCount, andThen}
 use Rattle.canon.specs.Types.{Ty, variantOf, listOf, mapOf, flagsOf, enumOf, optionOf, resultOf, fixedOf, Members, Case, Cases, ∎, _▸_, count}
 use Rattle.canon.specs.Types.{Kind, kRecord, kVariant, kList, kTuple, kMap, kFlags, kEnum, kOption, kResult, kFixed}
 use Rattle.canon.specs.Layout.{discriminant}
@@ -41,7 +41,7 @@ use Rattle.build.proofs.ElementLaws.{list-row, fixed-row, flags-row, ma
 
 -- The type that the references make, kind by kind
 
-made : {A : Type 0} (f : A → Ty) (o : Option A) (k : A → Leaf (List ℕ)) (n : ℕ) → ((a : A) → k a ≡ rowLeaf (checked n (some (f a)))) → orBad o k ≡ rowLeaf (checked n (lift f o))
+made : {A : Type 0} (f : A → Ty) (o : Option A) (k : A → Leaf (List ℕ)) (n : ℕ) → ((a : A) → k a ≡ rowLeaf (checked n (some (f a)))) → orBad o k ≡ rowLeaf (checked n (mapOption f o))
 unfolding checked
 made f none k n e = refl
 made f (some a) k n e = e a
@@ -49,7 +49,7 @@ made f (some a) k n e = e a
 made2 :
     {A B : Type 0} (f : A → B → Ty) (o : Option A) (q : Option B) (k : A → B → Leaf (List ℕ)) (n : ℕ) →
     ((a : A) (b : B) → k a b ≡ rowLeaf (checked n (some (f a b)))) →
-    orBad o (λ a. orBad q (k a)) ≡ rowLeaf (checked n (lift2 f o q))
+    orBad o (λ a. orBad q (k a)) ≡ rowLeaf (checked n (mapOption2 f o q))
 unfolding checked
 made2 f none q k n e = refl
 made2 f (some a) q k n e = made (f a) q (k a) n (e a)
@@ -69,7 +69,7 @@ flags c n = judged (ltb 32 c) (λ h. rw (lt-leb c 32 (ltb-true 32 c h))) (flags-
 
 module _ (ts : List Ty) where
   product : {k : Kind} {type : Members → Ty} → Product k type → (ws : List ℕ) (kind n : ℕ) → ((us : Members) → rowKind (type us) ≡ kind) →
-      foldRefs (typeInfo ts) addMember ws noMembers (membersRow kind) ≡ rowLeaf (checked n (lift type (membersOf ts ws)))
+      foldRefs (typeInfo ts) addMember ws noMembers (membersRow kind) ≡ rowLeaf (checked n (mapOption type (membersOf ts ws)))
   product {type = type} p ws kind n e =
       fold-members ts (membersRow kind) addMember ws noMembers
       ∙ made type (membersOf ts ws) _ n (λ us. rw (← (e us)) (product-row p us n))
@@ -79,44 +79,44 @@ module _ (ts : List Ty) where
   count-cases [] cs e = let p : ∎ ≡ cs = cc in rw (← p)
   count-cases (w ∷ ws) cs e = go (caseOf ts w) (casesOf ts ws) (λ ds. count-cases ws ds) e
     where
-      go : (o : Option Case) (q : Option Cases) → ((ds : Cases) → q ≡ some ds → count ds ≡ length ws) → lift2 _▸_ o q ≡ some cs → count cs ≡ suc (length ws)
+      go : (o : Option Case) (q : Option Cases) → ((ds : Cases) → q ≡ some ds → count ds ≡ length ws) → mapOption2 _▸_ o q ≡ some cs → count cs ≡ suc (length ws)
       go none q h e = impossible (cc)
       go (some c) none h e = impossible (cc)
       go (some c) (some ds) h e = let p : c ▸ ds ≡ cs = cc in rw (← p) (ap suc (h ds refl))
 
-  variant : (ws : List ℕ) (n : ℕ) → variantRow 2 (typeInfo ts) ws ≡ cond (eqb (length ws) 0) (no badCount) (rowLeaf (checked n (lift variantOf (casesOf ts ws))))
+  variant : (ws : List ℕ) (n : ℕ) → variantRow 2 (typeInfo ts) ws ≡ cond (eqb (length ws) 0) (no badCount) (rowLeaf (checked n (mapOption variantOf (casesOf ts ws))))
   unfolding variantRow andThen checked
   variant ws n =
       judged (eqb (length ws) 0)
       (λ h. rw (discriminant-none (length ws) h))
       (λ h. rw (discriminant-is (length ws) h) (fold-cases ts (payloadsRow 2 (discriminant (length ws))) addIfPayload ws noPayloads ∙ go (casesOf ts ws) refl))
     where
-      go : (o : Option Cases) → casesOf ts ws ≡ o → orBad o (λ cs. payloadsRow 2 (discriminant (length ws)) (foldCases addIfPayload noPayloads cs)) ≡ rowLeaf (checked n (lift variantOf o))
+      go : (o : Option Cases) → casesOf ts ws ≡ o → orBad o (λ cs. payloadsRow 2 (discriminant (length ws)) (foldCases addIfPayload noPayloads cs)) ≡ rowLeaf (checked n (mapOption variantOf o))
       go none e = refl
       go (some cs) e = rw (← (count-cases ws cs e)) (cased-row (variant-cased cs) n)
 
-  option : (w n : ℕ) → andThen (typeInfo ts w) optionRow ≡ rowLeaf (checked n (lift optionOf (reference ts w)))
+  option : (w n : ℕ) → andThen (typeInfo ts w) optionRow ≡ rowLeaf (checked n (mapOption optionOf (reference ts w)))
   unfolding optionRow addIfPayload
   option w n = one-look ts w optionRow ∙ made optionOf (reference ts w) _ n (λ t. cased-row (option-cased t) n)
 
   result : (v w n : ℕ) →
-      variantRow 9 (typeInfo ts) (v ∷ w ∷ []) ≡ rowLeaf (checked n (lift2 resultOf (caseOf ts v) (caseOf ts w)))
+      variantRow 9 (typeInfo ts) (v ∷ w ∷ []) ≡ rowLeaf (checked n (mapOption2 resultOf (caseOf ts v) (caseOf ts w)))
   unfolding variantRow andThen casesOf checked
   result v w n =
       rw (discriminant-is 2 refl) (fold-cases ts (payloadsRow 9 1) addIfPayload (v ∷ w ∷ []) noPayloads ∙ go (caseOf ts v) (caseOf ts w))
     where
-      go : (o q : Option Case) → orBad (lift2 _▸_ o (lift2 _▸_ q (some ∎))) (λ cs. payloadsRow 9 1 (foldCases addIfPayload noPayloads cs)) ≡ rowLeaf (checked n (lift2 resultOf o q))
+      go : (o q : Option Case) → orBad (mapOption2 _▸_ o (mapOption2 _▸_ q (some ∎))) (λ cs. payloadsRow 9 1 (foldCases addIfPayload noPayloads cs)) ≡ rowLeaf (checked n (mapOption2 resultOf o q))
       go none q = refl
       go (some ok) none = refl
       go (some ok) (some err) = cased-row (result-cased ok err) n
 
-  listed : (w n : ℕ) → andThen (typeInfo ts w) listRow ≡ rowLeaf (checked n (lift listOf (reference ts w)))
+  listed : (w n : ℕ) → andThen (typeInfo ts w) listRow ≡ rowLeaf (checked n (mapOption listOf (reference ts w)))
   listed w n = one-look ts w listRow ∙ made listOf (reference ts w) _ n (λ t. list-row t n)
 
-  fixed-list : (w c n : ℕ) → andThen (typeInfo ts w) (fixedRow c) ≡ rowLeaf (checked n (lift (λ t. fixedOf t c) (reference ts w)))
+  fixed-list : (w c n : ℕ) → andThen (typeInfo ts w) (fixedRow c) ≡ rowLeaf (checked n (mapOption (λ t. fixedOf t c) (reference ts w)))
   fixed-list w c n = one-look ts w (fixedRow c) ∙ made (λ t. fixedOf t c) (reference ts w) _ n (λ t. fixed-row t c n)
 
-  mapped : (v w n : ℕ) → mapRow (typeInfo ts) v w ≡ rowLeaf (checked n (lift2 mapOf (reference ts v) (reference ts w)))
+  mapped : (v w n : ℕ) → mapRow (typeInfo ts) v w ≡ rowLeaf (checked n (mapOption2 mapOf (reference ts v) (reference ts w)))
   unfolding mapRow
   mapped v w n =
       one-look ts v (λ a. andThen (typeInfo ts w) (λ b. entryRow a b))
@@ -154,7 +154,7 @@ kind-row ts kRecord ws from n len e h = rw (shape-references counted ws from n) 
 kind-row ts kVariant ws from n len e h =
     rw (← (shape-references counted ws from n))
     (variant ts (between ws (from + 1) (from + 1 + n)) len
-    ∙ ap (λ (l : ℕ). cond (eqb l 0) (no badCount) (rowLeaf (checked len (lift variantOf (casesOf ts (between ws (from + 1) (from + 1 + n))))))) (references-length ws (from + 1) n (omega arith)))
+    ∙ ap (λ (l : ℕ). cond (eqb l 0) (no badCount) (rowLeaf (checked len (mapOption variantOf (casesOf ts (between ws (from + 1) (from + 1 + n))))))) (references-length ws (from + 1) n (omega arith)))
 kind-row ts kList ws from n len e h = rw (first ws from 0) (listed ts _ len)
 kind-row ts kTuple ws from n len e h = rw (shape-references counted ws from n) (product ts aTuple _ 4 len (λ us. refl))
 kind-row ts kMap ws from n len e h = rw (first ws from 1, second ws from) (mapped ts _ _ len)

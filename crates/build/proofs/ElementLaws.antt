@@ -7,7 +7,7 @@ use Prim.Native.Nat.{ℕ, _+_, _≤_}
 use native.Mathlib.Omega.{arith}
 use lib.Dec.{ltb}
 use borrow.Author.Tests.{ltb-false, le-leb}
-use Rattle.canon.specs.Answer.{is, lift, andThen}
+use Rattle.canon.specs.Answer.{is, mapOption, andThen}
 use Rattle.canon.specs.Types.{Ty, listOf, mapOf, flagsOf, fixedOf, kFixed, kindWord}
 use Rattle.canon.specs.Layout.{Memory, mem32, mem64, Both, both, Layout, starts, lastEnd, greatestAlign, recordSize, recordLayout, flagsLayout, fixedLayout, mostFlags, largestNumber, layout}
 use Rattle.canon.specs.Layout.{roundUp}
@@ -35,13 +35,13 @@ pub list-row : (t : Ty) (n : ℕ) → listRow (infoOf t) ≡ rowLeaf (checked n 
 unfolding listRow layout flatten flatCount reach pack
 list-row t n = ap is (row-words (listOf t)) ∙ row-fits (listOf t) n (each _ (omega arith) (omega arith))
 
-fixed-words : (t : Ty) (c : ℕ) → both (λ m. packed (lift (copies c) (unpacked (memoryWords m (infoFlat (infoOf t)))))) ≡ both (λ m. typeFlat m (fixedOf t c))
+fixed-words : (t : Ty) (c : ℕ) → both (λ m. packed (mapOption (copies c) (unpacked (memoryWords m (infoFlat (infoOf t)))))) ≡ both (λ m. typeFlat m (fixedOf t c))
 unfolding flatten flatCount
 fixed-words t c = λ i. record { in32 = one mem32 i; in64 = one mem64 i }
   where
-    one : (m : Memory) → packed (lift (copies c) (unpacked (memoryWords m (infoFlat (infoOf t))))) ≡ typeFlat m (fixedOf t c)
+    one : (m : Memory) → packed (mapOption (copies c) (unpacked (memoryWords m (infoFlat (infoOf t))))) ≡ typeFlat m (fixedOf t c)
     one m =
-        ap (λ (p : Packed). packed (lift (copies c) (unpacked p))) (both-in (flatCount t) (λ i. flatten i t) (type-counted mem32 t) m)
+        ap (λ (p : Packed). packed (mapOption (copies c) (unpacked p))) (both-in (flatCount t) (λ i. flatten i t) (type-counted mem32 t) m)
         ∙ repeat-words (flatCount t) (flatten m t) (type-counted m t) c
 
 pub fixed-row : (t : Ty) (c n : ℕ) → fixedRow c (infoOf t) ≡ rowLeaf (checked n (some (fixedOf t c)))

@@ -5,7 +5,7 @@ use mathlib.Core.List.{List, [], _∷_}
 use mathlib.Core.Option.{Option, none, some}
 use Prim.Native.Nat.{ℕ}
 use lib.Dec.{eqb}
-use Rattle.canon.specs.Answer.{Leaf, is, no as refuses, lift, lift2, badRef, andThen}
+use Rattle.canon.specs.Answer.{Leaf, is, no as refuses, mapOption, mapOption2, badRef, andThen}
 use Rattle.canon.specs.Types.{Ty, Members, ∅, _◂_, Case, bare, holding, Cases, ∎, _▸_}
 use Rattle.canon.specs.Row.{Info, infoOf}
 use Rattle.canon.specs.Description.{mark, reference, caseOf, membersOf, casesOf}
@@ -43,7 +43,7 @@ one-case : {B : Type 0} (ts : List Ty) (w : ℕ) (k : Option Info → Leaf B) �
 unfolding andThen plainInfo caseLook caseOf
 one-case ts w k = go (eqb w mark) (reference ts w)
   where
-    go : (b : Bool) (o : Option Ty) → andThen (cond b (is none) (andThen (plainInfo o) (λ i. is (some i)))) k ≡ orBad (cond b (some bare) (lift holding o)) (λ c. k (caseInfo c))
+    go : (b : Bool) (o : Option Ty) → andThen (cond b (is none) (andThen (plainInfo o) (λ i. is (some i)))) k ≡ orBad (cond b (some bare) (mapOption holding o)) (λ c. k (caseInfo c))
     go true o = refl
     go false none = refl
     go false (some t) = refl
@@ -51,7 +51,7 @@ one-case ts w k = go (eqb w mark) (reference ts w)
 -- one more in front
 orBad-cons :
     {A B C D : Type 0} (f : A → B → C) (o : Option A) (q : Option B) (k : C → Leaf D) →
-    orBad o (λ a. orBad q (λ b. k (f a b))) ≡ orBad (lift2 f o q) k
+    orBad o (λ a. orBad q (λ b. k (f a b))) ≡ orBad (mapOption2 f o q) k
 orBad-cons f none q k = refl
 orBad-cons f (some a) none k = refl
 orBad-cons f (some a) (some b) k = refl

@@ -1,4 +1,4 @@
--- No second outcome meets the promise of `build`: neither another answer nor another word of the table.
+-- No second outcome meets a promise: neither another answer nor another word of the table.
 use mathlib.Core.Path.{_≡_, refl, sym, ap, _∙_}
 use mathlib.Core.List.{List}
 use Prim.Native.Nat.{ℕ}
@@ -11,6 +11,7 @@ use Rattle.build.specs.Means.{builtMeans}
 use Rattle.build.specs.declared.Built.{Built}
 use Rattle.build.specs.declared.Built.the-variants as built
 use Rattle.build.proofs.build.Reads as build
+use Rattle.build.proofs.Built.accepted.Reads as accepted
 
 abbrev back : Answer ℕ → Built
 back (ok n) = built.Rows n
@@ -26,3 +27,6 @@ pub build-one :
     build.Post κs (ws, (t, tt)) q (ws, (at-last t k, tt)) →
     (r ≡ q) × (l ≡ k)
 build-one κs ws t r q l k g h = (told builtMeans back back-again r q (g .0 ∙ sym (h .0)), g .1 ∙ sym (h .1))
+
+pub accepted-one : (b : Built) (r q : ℕ) → accepted.Post tt (b, tt) r (b, tt) → accepted.Post tt (b, tt) q (b, tt) → r ≡ q
+accepted-one b r q g h = g ∙ sym h

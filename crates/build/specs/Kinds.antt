@@ -3,7 +3,7 @@ use mathlib.Core.List.{List}
 use mathlib.Core.Option.{some}
 use Prim.Native.Nat.{ℕ, _+_, _*_}
 use lib.ListN.{length, getD}
-use Rattle.canon.specs.Answer.{Leaf, is, lift, andThen}
+use Rattle.canon.specs.Answer.{Leaf, is, mapOption, andThen}
 use Rattle.canon.specs.Layout.{Memory, both, within}
 use Rattle.canon.specs.Flat.{copies, flagsFlat}
 use Rattle.canon.specs.Row.{noInner, Info, rowWords, infoLayout}
@@ -22,7 +22,7 @@ listRow i = is (pairWords 3 (both (λ m. noInner)) (i .reach))
 unfoldable pub fixedRow : ℕ → Info → Leaf (List ℕ)
 fixedRow n i =
     fitRow (both (λ m. extentAt (infoLayout m i .size * n) (infoLayout m i .align)))
-    (λ ls. rowWords 10 ls (both (λ m. packed (lift (copies n) (unpacked (memoryWords m (infoFlat i)))))) (both (λ m. noInner)) (i .reach))
+    (λ ls. rowWords 10 ls (both (λ m. packed (mapOption (copies n) (unpacked (memoryWords m (infoFlat i)))))) (both (λ m. noInner)) (i .reach))
 
 unfoldable pub flagsRow : ℕ → Leaf (List ℕ)
 flagsRow n =

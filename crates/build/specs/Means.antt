@@ -31,6 +31,11 @@ abbrev pub builtMeans : Built → Answer ℕ
 builtMeans (built.Rows n) = ok n
 builtMeans (built.Refused x i) = refused (numberOf x) (i .0)
 
+-- how many definitions a build accepted: its count, or the index of its refusal
+abbrev pub accepted : Answer ℕ → ℕ
+accepted (ok n) = n
+accepted (refused x i) = i
+
 abbrev pub payloadMeans : Payload → Leaf (Option row.Info)
 payloadMeans payload.Bare = is none
 payloadMeans (payload.Info i) = is (some (infoMeans i))

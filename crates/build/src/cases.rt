@@ -15,6 +15,8 @@ use crate::reference::member_at;
 use crate::row::Rowed;
 use crate::row::fit_row;
 use flat_types::FlatTypes;
+use head::ENUM;
+use head::OPTION;
 use table::DefinitionIndex;
 use table::Found;
 use table::Info;
@@ -27,23 +29,19 @@ use types::Extents;
 use types::Layouts;
 use types::Refusal;
 
-pub(crate) struct Payloads {
+struct Payloads {
     layouts: Layouts,
     flat: FlatTypes,
     reach: Reach,
 }
 
-pub(crate) enum Joined {
+enum Joined {
     Payloads(Payloads),
     BadRef,
 }
 
-const ENUM: u32 = 7;
-
-const OPTION: u32 = 8;
-
 impl Payloads {
-    pub(crate) fn start() -> Payloads
+    fn start() -> Payloads
         ensures { λ r. ⌜ payloadsMeans r ≡ noPayloads ⌝ }
     {
         Payloads {
@@ -53,7 +51,7 @@ impl Payloads {
         }
     }
 
-    pub(crate) fn add(self, payload: Info) -> Payloads
+    fn add(self, payload: Info) -> Payloads
         ensures { λ r. ⌜ payloadsMeans r ≡ addPayload (payloadsMeans self) (infoMeans payload) ⌝ }
     {
         let layouts = self.layouts;
@@ -70,7 +68,7 @@ impl Payloads {
     }
 
     // Adds the payload of a case, if it has one.
-    pub(crate) fn add_case(self, table: &[u32], index: DefinitionIndex, reference: u32) -> Joined
+    fn add_case(self, table: &[u32], index: DefinitionIndex, reference: u32) -> Joined
         ensures { λ r. ⌜ joinedMeans r ≡ andThen (caseLook (memberLook (now (table .entry)) (index .0)) reference) (λ c. is (addIfPayload (payloadsMeans self) c)) ⌝ }
     {
         match case_at(table, index, reference) {
@@ -80,7 +78,7 @@ impl Payloads {
         }
     }
 
-    pub(crate) fn row(self, kind: u32, size: DiscriminantSize) -> Rowed
+    fn row(self, kind: u32, size: DiscriminantSize) -> Rowed
         ensures { λ r. ⌜ rowedMeans r ≡ payloadsRow kind (bytesOf size) (payloadsMeans self) ⌝ }
     {
         let layouts = self.layouts;

@@ -8,7 +8,7 @@ mod simple;
 
 ghost use mathlib.Core.Path.{_≡_};
 ghost use Rattle.canon.specs.Description.{buildAnswer, tableAfter};
-ghost use Rattle.build.specs.Means.{builtMeans};
+ghost use Rattle.build.specs.Means.{builtMeans, accepted};
 use crate::define::DefinedRow;
 use crate::define::define;
 use table::DefinitionIndex;
@@ -17,11 +17,26 @@ use table::put_row;
 use types::Refusal;
 
 // A description has at most so many words.
-const MAX_WORDS: usize = 16384;
+pub const MAX_WORDS: usize = 16384;
+
+// Lent as bytes, it has at most so many.
+pub const MAX_BYTES: usize = 4 * MAX_WORDS;
 
 pub enum Built {
     Rows(u32),
     Refused(Refusal, DefinitionIndex),
+}
+
+impl Built {
+    // Counts the rows that were written: a build is refused at its first bad definition.
+    pub fn accepted(self) -> u32
+        ensures { λ r. ⌜ r ≡ accepted (builtMeans self) ⌝ }
+    {
+        match self {
+            Built::Rows(rows) => rows,
+            Built::Refused(_, index) => index.0,
+        }
+    }
 }
 
 // Writes a row for each definition, up to the first that is refused. Refuses TooLong for the description, then for each definition NoRoom,

@@ -13,6 +13,7 @@ use crate::row::Rowed;
 use crate::row::fit_row;
 use crate::row::pair_row;
 use flat_types::FlatTypes;
+use head::MAP;
 use table::DefinitionIndex;
 use table::Found;
 use table::Info;
@@ -22,16 +23,14 @@ use types::Extents;
 use types::Fitted;
 use types::Refusal;
 
-const MAP: u32 = 5;
-
-pub(crate) struct Members {
+struct Members {
     extents: Extents,
     flat: FlatTypes,
     reach: Reach,
 }
 
 impl Members {
-    pub(crate) fn start() -> Members
+    fn start() -> Members
         ensures { λ r. ⌜ membersMeans r ≡ noMembers ⌝ }
     {
         Members {
@@ -41,7 +40,7 @@ impl Members {
         }
     }
 
-    pub(crate) fn add(self, member: Info) -> Members
+    fn add(self, member: Info) -> Members
         ensures { λ r. ⌜ membersMeans r ≡ addMember (membersMeans self) (infoMeans member) ⌝ }
     {
         let extents = self.extents;
@@ -59,7 +58,7 @@ impl Members {
         }
     }
 
-    pub(crate) fn row(self, kind: u32) -> Rowed
+    fn row(self, kind: u32) -> Rowed
         ensures { λ r. ⌜ rowedMeans r ≡ membersRow kind (membersMeans self) ⌝ }
     {
         let extents = self.extents;

@@ -13,18 +13,15 @@ use crate::row::fit_row;
 use crate::row::pair_row;
 use crate::row::row_of;
 use flat_types::FlatTypes;
+use head::FIXED_LENGTH_LIST;
+use head::FLAGS;
+use head::LIST;
 use table::DefinitionIndex;
 use table::Found;
 use table::Reach;
 use types::CanonicalAbiInfo;
 use types::InfoAnswer;
 use types::Refusal;
-
-const LIST: u32 = 3;
-
-const FLAGS: u32 = 6;
-
-const FIXED_LENGTH_LIST: u32 = 10;
 
 pub(crate) fn list_row(words: &[u32], first: usize, table: &[u32], index: DefinitionIndex) -> Rowed
     requires { ⌜ first < length (now words) ⌝ }

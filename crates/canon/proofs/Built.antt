@@ -8,7 +8,7 @@ use native.Mathlib.Omega.{arith}
 use lib.Dec.{leb, ltb}
 use lib.ListN.{length, getD, take, drop, getElem?, length-map, length-append}
 use borrow.Author.Tests.{ltb-true, ltb-false}
-use Rattle.canon.specs.Answer.{Leaf, is, no as refuses, lift, lift2, badRef, tooLarge}
+use Rattle.canon.specs.Answer.{Leaf, is, no as refuses, mapOption, mapOption2, badRef, tooLarge}
 use Rattle.canon.specs.Types.{Ty, recordOf, variantOf, listOf, tupleOf, mapOf, flagsOf, enumOf, optionOf, resultOf, fixedOf, plain, Kind, kRecord, kVariant, kList, kTuple, kMap, kFlags, kEnum, kOption, kResult, kFixed}
 use Rattle.canon.specs.Layout.{mem32, mem64}
 use Rattle.canon.specs.Row.{Info, rowOf}
@@ -23,11 +23,11 @@ use Rattle.canon.specs.Placement.{Every}
 
 -- What a description accepts is a definition
 
-lifted : {A : Type 0} (f : A → Ty) (o : Option A) (t : Ty) → ((a : A) → Definition (f a)) → lift f o ≡ some t → Definition t
+lifted : {A : Type 0} (f : A → Ty) (o : Option A) (t : Ty) → ((a : A) → Definition (f a)) → mapOption f o ≡ some t → Definition t
 lifted f none t d e = impossible (cc)
 lifted f (some a) t d e = let p : f a ≡ t = cc in rw (← p) (d a)
 
-lifted2 : {A B : Type 0} (f : A → B → Ty) (o : Option A) (q : Option B) (t : Ty) → ((a : A) (b : B) → Definition (f a b)) → lift2 f o q ≡ some t → Definition t
+lifted2 : {A B : Type 0} (f : A → B → Ty) (o : Option A) (q : Option B) (t : Ty) → ((a : A) (b : B) → Definition (f a b)) → mapOption2 f o q ≡ some t → Definition t
 lifted2 f none q t d e = impossible (cc)
 lifted2 f (some a) q t d e = lifted (f a) q t (d a) e
 

@@ -9,7 +9,7 @@ use native.Mathlib.Omega.{arith}
 use lib.Dec.{leb}
 use lib.ListN.{length, length-append}
 use borrow.Author.Tests.{lt-leb, le-leb, leb-true, leb-false}
-use Rattle.canon.specs.Answer.{lift2}
+use Rattle.canon.specs.Answer.{mapOption2}
 use Rattle.canon.specs.Types.{Ty, Members, ∅, _◂_, Case, bare, holding, Cases, ∎, _▸_, Core}
 use Rattle.canon.specs.Layout.{Memory}
 use Rattle.canon.specs.Flat.{joinLists, joinAll, copies, capped, addFlat, maxFlat, sumFlat, greatestFlat, flatten, memberFlats, payloadFlat, payloadFlats, flatCount, memberCounts, payloadCount, payloadCounts}
@@ -152,20 +152,20 @@ greats-from a (c ∷ cs) = greats-from (maxFlat a c) cs ∙ sym (maxFlat-assoc a
 pub greats-greatest : (cs : List (Option ℕ)) → greats (some 0) cs ≡ greatestFlat cs
 greats-greatest cs = greats-from (some 0) cs ∙ zero-maxFlat (greatestFlat cs)
 
-lift2-assoc : (a b c : Option (List Core)) → lift2 _++_ a (lift2 _++_ b c) ≡ lift2 _++_ (lift2 _++_ a b) c
+lift2-assoc : (a b c : Option (List Core)) → mapOption2 _++_ a (mapOption2 _++_ b c) ≡ mapOption2 _++_ (mapOption2 _++_ a b) c
 lift2-assoc none b c = refl
 lift2-assoc (some k) none c = refl
 lift2-assoc (some k) (some l) none = refl
 lift2-assoc (some k) (some l) (some r) = ap some (sym (append-assoc k l r))
 
-lift2-nil : (a : Option (List Core)) → lift2 _++_ a (some []) ≡ lift2 _++_ (some []) a
+lift2-nil : (a : Option (List Core)) → mapOption2 _++_ a (some []) ≡ mapOption2 _++_ (some []) a
 lift2-nil none = refl
 lift2-nil (some l) = ap some (append-nil l)
 
-pub flatAll-more : (m : Memory) (is′ : List Info) (i : Info) → flatAll m (is′ ++ i ∷ []) ≡ lift2 _++_ (flatAll m is′) (flatOf m i)
+pub flatAll-more : (m : Memory) (is′ : List Info) (i : Info) → flatAll m (is′ ++ i ∷ []) ≡ mapOption2 _++_ (flatAll m is′) (flatOf m i)
 unfolding flatAll
 flatAll-more m [] i = lift2-nil (flatOf m i)
-flatAll-more m (j ∷ is′) i = ap (λ (x : Option (List Core)). lift2 _++_ (flatOf m j) x) (flatAll-more m is′ i) ∙ lift2-assoc (flatOf m j) (flatAll m is′) (flatOf m i)
+flatAll-more m (j ∷ is′) i = ap (λ (x : Option (List Core)). mapOption2 _++_ (flatOf m j) x) (flatAll-more m is′ i) ∙ lift2-assoc (flatOf m j) (flatAll m is′) (flatOf m i)
 
 -- All parts
 

@@ -10,7 +10,7 @@ use native.Mathlib.Omega.{arith}
 use lib.Dec.{leb, ltb}
 use lib.ListN.{length, take, getElem?}
 use borrow.Author.Tests.{le-ltb}
-use Rattle.canon.specs.Answer.{Leaf, is, no as refuses, Answer, ok, refused, atPosition, then, unless, lift2, lift, badRef, tooLarge}
+use Rattle.canon.specs.Answer.{Leaf, is, no as refuses, Answer, ok, refused, atPosition, then, unless, mapOption2, mapOption, badRef, tooLarge}
 use Rattle.canon.specs.Types.{Ty, Core, plain}
 use Rattle.canon.specs.Layout.{Memory, mem32, mem64, Layout, within, layout}
 use Rattle.canon.specs.Flat.{flatten, flatCount}
@@ -127,7 +127,7 @@ table-there ws t n le =
 -- the types that a question's references name
 unfoldable pub named : List Ty → List ℕ → Option (List Ty)
 named ts [] = some []
-named ts (w ∷ ws) = lift2 _∷_ (reference ts w) (named ts ws)
+named ts (w ∷ ws) = mapOption2 _∷_ (reference ts w) (named ts ws)
 
 infos-named : (ts : List Ty) (p : ℕ) (ws : List ℕ) (us : List Ty) → named ts ws ≡ some us → infos (typeInfo ts) p ws ≡ ok (map infoOf us)
 unfolding named infos then atPosition plainInfo
@@ -135,7 +135,7 @@ infos-named ts p [] us e = let q : [] ≡ us = cc in rw (← q)
 infos-named ts p (w ∷ ws) us e = go (reference ts w) refl (named ts ws) refl e (infos-named ts (suc p) ws)
   where
     go :
-        (o : Option Ty) → reference ts w ≡ o → (l : Option (List Ty)) → named ts ws ≡ l → lift2 _∷_ o l ≡ some us →
+        (o : Option Ty) → reference ts w ≡ o → (l : Option (List Ty)) → named ts ws ≡ l → mapOption2 _∷_ o l ≡ some us →
         ((vs : List Ty) → named ts ws ≡ some vs → infos (typeInfo ts) (suc p) ws ≡ ok (map infoOf vs)) →
         then (atPosition p (typeInfo ts w)) (λ i. then (infos (typeInfo ts) (suc p) ws) (λ js. ok (i ∷ js))) ≡ ok (map infoOf us)
     go none f l g h more = impossible (cc)
@@ -182,7 +182,7 @@ layouts-typed mem64 (u ∷ us) = ap (λ (l : List Layout). layout mem64 u ∷ l)
 -- the flat lists of all, none if one type has no flat count
 abbrev pub flatTypes : Memory → List Ty → Option (List Core)
 flatTypes m [] = some []
-flatTypes m (u ∷ us) = lift2 _++_ (lift (λ n. flatten m u) (flatCount u)) (flatTypes m us)
+flatTypes m (u ∷ us) = mapOption2 _++_ (mapOption (λ n. flatten m u) (flatCount u)) (flatTypes m us)
 
 pub flats-typed : (m : Memory) (us : List Ty) → flatAll m (map infoOf us) ≡ flatTypes m us
 unfolding flatAll

@@ -8,7 +8,7 @@ use native.Mathlib.Omega.{arith}
 use lib.Dec.{leb, eqb}
 use lib.ListN.{length}
 use borrow.Author.Tests.{eqb-true, le-leb, eq-eqb, ne-eqb}
-use Rattle.canon.specs.Answer.{lift}
+use Rattle.canon.specs.Answer.{mapOption}
 use Rattle.canon.specs.Types.{Ty, scalar, string, recordOf, variantOf, listOf, tupleOf, mapOf, flagsOf, enumOf, optionOf, resultOf, fixedOf, count}
 use Rattle.canon.specs.Layout.{Memory, mem32, mem64, discriminant, layout}
 use Rattle.canon.specs.Flat.{flatten, flatCount}
@@ -130,11 +130,11 @@ row-back t = rw (countOf-countWord (flatCount t) (flatCount-small t), word-back 
 
 -- the flat list that a question takes from it is the type's own
 
-listed : (m : Memory) (t : Ty) (c : Option ℕ) → flatCount t ≡ c → lift (λ n. unpack n (flatWord c (flatten m t))) c ≡ lift (λ n. flatten m t) c
+listed : (m : Memory) (t : Ty) (c : Option ℕ) → flatCount t ≡ c → mapOption (λ n. unpack n (flatWord c (flatten m t))) c ≡ mapOption (λ n. flatten m t) c
 listed m t none e = refl
 listed m t (some n) e = ap some (rw (← (counted m t n .0 e .0)) (unpack-pack (flatten m t)))
 
-pub flat-back : (m : Memory) (t : Ty) → flatOf m (infoOf t) ≡ lift (λ n. flatten m t) (flatCount t)
+pub flat-back : (m : Memory) (t : Ty) → flatOf m (infoOf t) ≡ mapOption (λ n. flatten m t) (flatCount t)
 unfolding flatOf
 flat-back mem32 t = listed mem32 t (flatCount t) refl
 flat-back mem64 t = listed mem64 t (flatCount t) refl

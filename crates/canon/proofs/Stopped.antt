@@ -11,7 +11,7 @@ use native.Mathlib.Omega.{arith}
 use lib.Dec.{ltb}
 use lib.ListN.{length, getD, take, drop, length-append}
 use borrow.Author.Tests.{ltb-false, lt-ltb, le-ltb}
-use Rattle.canon.specs.Answer.{Leaf, is, no as refuses, refused, lift, tooLong, truncated, tooLarge, noRoom}
+use Rattle.canon.specs.Answer.{Leaf, is, no as refuses, refused, mapOption, tooLong, truncated, tooLarge, noRoom}
 use Rattle.canon.specs.Types.{Ty, Members, Kind}
 use Rattle.canon.specs.Layout.{mem32, mem64, members}
 use Rattle.canon.specs.Table.{capacity}
@@ -130,7 +130,7 @@ passed :
     (b : Bool) (o : Option Members) →
     ltb (length vs) (bodyLength (shapeOf k) (getD vs 0 0)) ≡ b →
     membersOf ts (drop 1 (take (bodyLength (shapeOf k) (getD vs 0 0)) vs)) ≡ o →
-    cond b (refuses truncated) (checked (bodyLength (shapeOf k) (getD vs 0 0)) (lift type o)) ≡ refuses tooLarge →
+    cond b (refuses truncated) (checked (bodyLength (shapeOf k) (getD vs 0 0)) (mapOption type o)) ≡ refuses tooLarge →
     (us : Members) × Passes ts w vs us
 unfolding checked
 passed p ts w vs known true o h n e = absurd (impossible (cc))

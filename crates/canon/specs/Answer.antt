@@ -61,10 +61,10 @@ unless false x a = a
 
 -- what may be missing
 
-abbrev pub lift : {A B : Type 0} → (A → B) → Option A → Option B
-lift f none = none
-lift f (some a) = some (f a)
+abbrev pub mapOption : {A B : Type 0} → (A → B) → Option A → Option B
+mapOption f none = none
+mapOption f (some a) = some (f a)
 
-abbrev pub lift2 : {A B C : Type 0} → (A → B → C) → Option A → Option B → Option C
-lift2 f none b = none
-lift2 f (some a) b = lift (f a) b
+abbrev pub mapOption2 : {A B C : Type 0} → (A → B → C) → Option A → Option B → Option C
+mapOption2 f none b = none
+mapOption2 f (some a) b = mapOption (f a) b

@@ -9,11 +9,12 @@ use Rattle.canon.specs.Types.{Ty, recordOf, variantOf, listOf, tupleOf, 
 use Rattle.canon.specs.Layout.{Memory, mem32, mem64, mostFlags, largestNumber, numbers}
 use Rattle.canon.specs.Row.{rowOf}
 use Rattle.canon.specs.Table.{capacity, putRows}
-use Rattle.canon.specs.Answer.{Leaf, is, no, Answer, ok, refused, lift, lift2, tooLong, truncated, badKind, badRef, badCount, tooLarge, noRoom}
+use Rattle.canon.specs.Answer.{Leaf, is, no, Answer, ok, refused, mapOption, mapOption2, tooLong, truncated, badKind, badRef, badCount, tooLarge, noRoom}
 
 -- References
 
--- "64+j means definition j", here one of ts. "All other words are bad references": none
+-- "64+j means definition j", here one of ts, those before it: "Definition i may refer only to j < i". "All other words are bad
+-- references": none
 unfoldable pub reference : List Ty → ℕ → Option Ty
 reference ts w = cond (leb 64 w) (getElem? ts (w - 64)) (getElem? plain w)
 
@@ -22,15 +23,15 @@ abbrev pub mark : ℕ
 mark = 4294967295
 
 unfoldable pub caseOf : List Ty → ℕ → Option Case
-caseOf ts w = cond (eqb w mark) (some bare) (lift holding (reference ts w))
+caseOf ts w = cond (eqb w mark) (some bare) (mapOption holding (reference ts w))
 
 unfoldable pub membersOf : List Ty → List ℕ → Option Members
 membersOf ts [] = some ∅
-membersOf ts (w ∷ ws) = lift2 _◂_ (reference ts w) (membersOf ts ws)
+membersOf ts (w ∷ ws) = mapOption2 _◂_ (reference ts w) (membersOf ts ws)
 
 unfoldable pub casesOf : List Ty → List ℕ → Option Cases
 casesOf ts [] = some ∎
-casesOf ts (w ∷ ws) = lift2 _▸_ (caseOf ts w) (casesOf ts ws)
+casesOf ts (w ∷ ws) = mapOption2 _▸_ (caseOf ts w) (casesOf ts ws)
 
 -- One definition: a kind word, then its body
 
@@ -79,16 +80,16 @@ isBadCount k n = cond (isKind kFlags k) (ltb mostFlags n) ((isKind kVariant k ||
 
 -- the type that the body b defines after the definitions ts; none for a bad reference
 unfoldable pub typeOf : List Ty → Kind → List ℕ → Option Ty
-typeOf ts kRecord b = lift recordOf (membersOf ts (drop 1 b))
-typeOf ts kVariant b = lift variantOf (casesOf ts (drop 1 b))
-typeOf ts kList b = lift listOf (reference ts (getD b 0 0))
-typeOf ts kTuple b = lift tupleOf (membersOf ts (drop 1 b))
-typeOf ts kMap b = lift2 mapOf (reference ts (getD b 0 0)) (reference ts (getD b 1 0))
+typeOf ts kRecord b = mapOption recordOf (membersOf ts (drop 1 b))
+typeOf ts kVariant b = mapOption variantOf (casesOf ts (drop 1 b))
+typeOf ts kList b = mapOption listOf (reference ts (getD b 0 0))
+typeOf ts kTuple b = mapOption tupleOf (membersOf ts (drop 1 b))
+typeOf ts kMap b = mapOption2 mapOf (reference ts (getD b 0 0)) (reference ts (getD b 1 0))
 typeOf ts kFlags b = some (flagsOf (getD b 0 0))
 typeOf ts kEnum b = some (enumOf (getD b 0 0))
-typeOf ts kOption b = lift optionOf (reference ts (getD b 0 0))
-typeOf ts kResult b = lift2 resultOf (caseOf ts (getD b 0 0)) (caseOf ts (getD b 1 0))
-typeOf ts kFixed b = lift (λ t. fixedOf t (getD b 1 0)) (reference ts (getD b 0 0))
+typeOf ts kOption b = mapOption optionOf (reference ts (getD b 0 0))
+typeOf ts kResult b = mapOption2 resultOf (caseOf ts (getD b 0 0)) (caseOf ts (getD b 1 0))
+typeOf ts kFixed b = mapOption (λ t. fixedOf t (getD b 1 0)) (reference ts (getD b 0 0))
 
 abbrev pub someAbove : ℕ → List ℕ → Bool
 someAbove n [] = false

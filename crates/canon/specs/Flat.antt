@@ -50,6 +50,7 @@ abbrev pub flagsFlat : ℕ → List Core
 flagsFlat zero = []
 flagsFlat (suc n) = I32 ∷ []
 
+-- 01: "A variant gives I32, then cases joined place by place"
 abbrev pub variantFlat : List (List Core) → List Core
 variantFlat ls = I32 ∷ joinAll [] ls
 
@@ -96,6 +97,7 @@ maxFlat none b = none
 maxFlat (some m) none = none
 maxFlat (some m) (some n) = some (max m n)
 
+-- "Count 0 gives size 0; its flat count is 0, but none if the element's is none"
 unfoldable pub timesFlat : Option ℕ → ℕ → Option ℕ
 timesFlat none n = none
 timesFlat (some m) n = capped (m * n)
@@ -117,6 +119,7 @@ abbrev pub flagsCount : ℕ → Option ℕ
 flagsCount zero = some 0
 flagsCount (suc n) = some 1
 
+-- "flat 1" of a scalar, "flat 2" of a string, list or map
 unfoldable mutual
   pub flatCount : Ty → Option ℕ
   flatCount (scalar s) = some 1

@@ -49,17 +49,20 @@ greatestAlign [] = 1
 greatestAlign (f ∷ fs) = max (f .align) (greatestAlign fs)
 
 -- 01: "each member starts at the first multiple of its alignment at or after the end before it"; e is that end
+abbrev pub endAfter : ℕ → Layout → ℕ
+endAfter e f = roundUp e (f .align) + f .size
+
 unfoldable pub starts : ℕ → List Layout → List ℕ
 starts e [] = []
-starts e (f ∷ fs) = roundUp e (f .align) ∷ starts (roundUp e (f .align) + f .size) fs
+starts e (f ∷ fs) = roundUp e (f .align) ∷ starts (endAfter e f) fs
 
 unfoldable pub ends : ℕ → List Layout → List ℕ
 ends e [] = []
-ends e (f ∷ fs) = (roundUp e (f .align) + f .size) ∷ ends (roundUp e (f .align) + f .size) fs
+ends e (f ∷ fs) = endAfter e f ∷ ends (endAfter e f) fs
 
 unfoldable pub lastEnd : ℕ → List Layout → ℕ
 lastEnd e [] = e
-lastEnd e (f ∷ fs) = lastEnd (roundUp e (f .align) + f .size) fs
+lastEnd e (f ∷ fs) = lastEnd (endAfter e f) fs
 
 -- elem_size_record: "the last end rounded up to it"
 unfoldable pub recordSize : List Layout → ℕ
@@ -103,6 +106,7 @@ flagsLayout n = cond (leb n 0) (record { size = 0; align = 1 }) (cond (leb n 8) 
 abbrev pub fixedLayout : Layout → ℕ → Layout
 fixedLayout f n = record { size = f .size * n; align = f .align }
 
+-- 01: "Enum: a variant without payloads. Option: cases none, some. Result: ok, err."
 module _ (m : Memory) where
   unfoldable mutual
     pub layout : Ty → Layout
@@ -144,7 +148,7 @@ recordNumbers fs = starts 0 fs ++ ends 0 fs ++ recordSize fs ∷ []
 abbrev pub variantNumbers : ℕ → List Layout → List ℕ
 variantNumbers n fs = payloadOffset n fs ∷ (payloadOffset n fs + greatestSize fs) ∷ variantSize n fs ∷ []
 
--- every number that has to fit; of a map its entry's, too
+-- every number that has to fit; of a map its entry's, too: "Map entry: a tuple of key and value"
 unfoldable pub numbers : Memory → Ty → List ℕ
 numbers m (scalar s) = layout m (scalar s) .size ∷ []
 numbers m string = layout m string .size ∷ []

@@ -6,7 +6,7 @@ use Prim.Native.Nat.{ℕ, suc, _+_, _-_, _*_}
 use lib.Dec.{leb, ltb}
 use lib.ListN.{length, drop, getElem?}
 use Rattle.canon.specs.Types.{Ty, plain}
-use Rattle.canon.specs.Layout.{Memory, Layout, roundUp, starts, recordLayout, recordSize, largestNumber}
+use Rattle.canon.specs.Layout.{Memory, Layout, roundUp, endAfter, starts, recordLayout, recordSize, largestNumber}
 use Rattle.canon.specs.Reach.{Reach, noReach, joinReach}
 use Rattle.canon.specs.Row.{Info, infoLayout, infoOf, rowInfo, isGood}
 use Rattle.canon.specs.Table.{rowAt}
@@ -72,8 +72,7 @@ sizeAlignAnswer m t n w = then (typeAnswer t n w) (λ i. ok (infoLayout m i))
 unfoldable pub firstOver : ℕ → ℕ → List Layout → Option ℕ
 firstOver p e [] = none
 firstOver p e (f ∷ fs) =
-    cond (ltb largestNumber (roundUp e (f .align)) || ltb largestNumber (roundUp e (f .align) + f .size)) (some p)
-    (firstOver (suc p) (roundUp e (f .align) + f .size) fs)
+    cond (ltb largestNumber (roundUp e (f .align)) || ltb largestNumber (endAfter e f)) (some p) (firstOver (suc p) (endAfter e f) fs)
 
 unfoldable pub orSize : Option ℕ → ℕ → Option ℕ
 orSize (some p) size = some p

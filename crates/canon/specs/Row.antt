@@ -10,7 +10,7 @@ use Rattle.canon.specs.Layout.{Memory, Both, both, within, Layout, layou
 use Rattle.canon.specs.Flat.{flatten, flatCount}
 use Rattle.canon.specs.Reach.{Reach, reach, reachWord, wordReach, goodReach}
 use Rattle.canon.specs.Pack.{Packed, pack, unpack}
-use Rattle.canon.specs.Answer.{lift}
+use Rattle.canon.specs.Answer.{mapOption}
 
 -- word 0; 0 for a type that no definition spells
 abbrev pub rowKind : Ty → ℕ
@@ -62,7 +62,7 @@ noInner = record { disc = 0; offset = 0; entry = noLayout }
 abbrev pub casesInner : ℕ → List Layout → Inner
 casesInner n fs = record { disc = discriminant n; offset = payloadOffset n fs; entry = noLayout }
 
--- the value is the entry's second member
+-- "Map entry: a tuple of key and value"
 abbrev pub mapInner : Layout → Layout → Inner
 mapInner k v = record { disc = 0; offset = getD (starts 0 (k ∷ v ∷ [])) 1 0; entry = recordLayout (k ∷ v ∷ []) }
 
@@ -126,7 +126,7 @@ rowInfo r = record { abi = rowAbi r; flatWords = record { in32 = word r 6; in64 
 
 -- the flat list in one memory, none if the count is none
 unfoldable pub flatOf : Memory → Info → Option (List Core)
-flatOf m i = lift (λ n. unpack n (within m (i .flatWords))) (i .abi .flats)
+flatOf m i = mapOption (λ n. unpack n (within m (i .flatWords))) (i .abi .flats)
 
 -- The good form. 01: "A row is well formed when"
 
@@ -155,6 +155,7 @@ goodAbi a = goodLayout (a .layouts .in32) && (goodLayout (a .layouts .in64) && g
 unfoldable pub isDiscriminant : ℕ → Bool
 isDiscriminant d = eqb d 0 || (eqb d 1 || (eqb d 2 || eqb d 4))
 
+-- "kind is 1 to 10", and "Nothing else in a row is tested"
 unfoldable pub isGood : List ℕ → Bool
 isGood r =
     leb 1 (word r 0)

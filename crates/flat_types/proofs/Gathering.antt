@@ -8,7 +8,7 @@ use native.Mathlib.Decide.{decLe}
 use native.Mathlib.Omega.{arith}
 use lib.ListN.{length, length-append}
 use borrow.Author.Tests.{lt-leb}
-use Rattle.canon.specs.Answer.{lift, lift2}
+use Rattle.canon.specs.Answer.{mapOption, mapOption2}
 use Rattle.canon.specs.Layout.{Memory, mem32, mem64, within}
 use Rattle.canon.specs.Flat.{ptrType}
 use Rattle.canon.specs.Pack.{Packed, code, pack, unpack}
@@ -33,7 +33,7 @@ unfolding flatOf
 good-packed m i p e f g u = good-words p (rw e at g) (rw e at u) ∙ rw (e, f) (ap packed (good-list p (rw e at g)))
 
 -- one list behind another, both as they are written: what is lost because it is too long would be lost later
-pub append-packed : (o p : Option (List Core)) → appendTo 16 (packed o) (packed p) ≡ packed (lift2 _++_ o p)
+pub append-packed : (o p : Option (List Core)) → appendTo 16 (packed o) (packed p) ≡ packed (mapOption2 _++_ o p)
 unfolding packedTo appendTo
 append-packed none p = rw (lt-leb (255 + packed p .number) 16 (omega arith))
 append-packed (some k) none = rw (lt-leb (packed (some k) .number + 255) 16 (omega arith))
@@ -65,7 +65,7 @@ one-pointer mem64 = refl
 pub pointer-words : (m : Memory) (l : List Core) → length l ≤ 16 → appendTo 17 (packed (some l)) (onePointer m) ≡ packedTo 17 (some (l ++ ptrType m ∷ []))
 pointer-words m l h = ap₂ (appendTo 17) (packed-some 16 l h) (one-pointer m) ∙ append-lists 17 l (ptrType m ∷ []) (omega arith)
 
-pub pointer-packed : (m : Memory) (p : Packed) → p ≡ packed (unpacked p) → appendTo 17 p (onePointer m) ≡ packedTo 17 (lift (λ l. l ++ ptrType m ∷ []) (unpacked p))
+pub pointer-packed : (m : Memory) (p : Packed) → p ≡ packed (unpacked p) → appendTo 17 p (onePointer m) ≡ packedTo 17 (mapOption (λ l. l ++ ptrType m ∷ []) (unpacked p))
 unfolding appendTo packedTo
 pointer-packed m p e =
     elim (decLe (p .number) 16) [

@@ -10,7 +10,7 @@ use lib.Bits.{bitOr, or-add-and, and-le-r, or-zero-l, or-shr}
 use lib.Dec.{leb, eqb}
 use lib.ListN.{length, length-append}
 use borrow.Author.Tests.{le-leb, lt-leb, leb-true, ne-eqb, eqb-true}
-use Rattle.canon.specs.Answer.{lift}
+use Rattle.canon.specs.Answer.{mapOption}
 use Rattle.canon.specs.Layout.{Memory, mem32, mem64, both, within}
 use Rattle.canon.specs.Flat.{copies, flagsFlat}
 use Rattle.canon.specs.Pack.{Packed, pack, unpack}
@@ -68,11 +68,11 @@ answer : (max n w : ℕ) (l : List Core) → length l ≡ n → n ≤ max → w 
 answer max n w l e h p = rw (packed-some max l (omega arith), e, p)
 
 module _ (p : Packed) (g : List Core → List Core) where
-  pub one-none : (max : ℕ) → 16 < p .number → noList ≡ packedTo max (lift g (unpacked p))
+  pub one-none : (max : ℕ) → 16 < p .number → noList ≡ packedTo max (mapOption g (unpacked p))
   unfolding packedTo
   one-none max h = rw (list-none p h)
 
-  pub one-is : (max n w : ℕ) → p .number ≤ 16 → length (g (types p)) ≡ n → n ≤ max → w ≡ pack (g (types p)) → record { number = n; types = w } ≡ packedTo max (lift g (unpacked p))
+  pub one-is : (max n w : ℕ) → p .number ≤ 16 → length (g (types p)) ≡ n → n ≤ max → w ≡ pack (g (types p)) → record { number = n; types = w } ≡ packedTo max (mapOption g (unpacked p))
   one-is max n w h e b f = rw (list-some p h) (answer max n w (g (types p)) e b f)
 
 -- one list behind another, as many as max
@@ -97,13 +97,13 @@ module _ (p : Packed) (n : ℕ) where
   repeat-length : length (copies n (types p)) ≡ p .number * n
   repeat-length = length-copies n (types p) ∙ ap (λ (x : ℕ). x * n) (length-types p)
 
-  pub repeat-none : p .number ≤ 16 → 16 < p .number * n → noList ≡ packed (lift (copies n) (unpacked p))
+  pub repeat-none : p .number ≤ 16 → 16 < p .number * n → noList ≡ packed (mapOption (copies n) (unpacked p))
   repeat-none h k = rw (list-some p h) (sym (packed-none 16 (copies n (types p)) (omega (arith, repeat-length))))
 
   pub repeat-fits : p .number * n ≤ 16 → pack (copies n (types p)) < 2 ^ 32
   repeat-fits h = pack-fits (copies n (types p)) 16 (omega (arith, repeat-length))
 
-  pub repeat-is : (w : ℕ) → p .number ≤ 16 → p .number * n ≤ 16 → w ≡ pack (copies n (types p)) → record { number = p .number * n; types = w } ≡ packed (lift (copies n) (unpacked p))
+  pub repeat-is : (w : ℕ) → p .number ≤ 16 → p .number * n ≤ 16 → w ≡ pack (copies n (types p)) → record { number = p .number * n; types = w } ≡ packed (mapOption (copies n) (unpacked p))
   repeat-is w h k e = one-is p (copies n) 16 (p .number * n) w h repeat-length k e
 
 pub flags-some : (n : ℕ) → (n ≡ 0 → ⊥) → flagsFlat n ≡ I32 ∷ []
@@ -155,17 +155,17 @@ module _ (p : Packed) (g : goodCount (countOf (p .number)) ≡ true) where
   good-cases false e h = list-some p (leb-true (p .number) 16 h)
 
   -- the list, where there is a count
-  pub good-given : unpacked p ≡ lift (λ _. types p) (countOf (p .number))
+  pub good-given : unpacked p ≡ mapOption (λ _. types p) (countOf (p .number))
   good-given = good-cases (eqb (p .number) 255) refl g ∙ go (eqb (p .number) 255)
     where
-      go : (b : Bool) → cond b none (some (types p)) ≡ lift (λ _. types p) (cond b none (some (p .number)))
+      go : (b : Bool) → cond b none (some (types p)) ≡ mapOption (λ _. types p) (cond b none (some (p .number)))
       go true = refl
       go false = refl
 
-  pub good-list : unpacked p ≡ lift (λ n. unpack n (p .types)) (countOf (p .number))
+  pub good-list : unpacked p ≡ mapOption (λ n. unpack n (p .types)) (countOf (p .number))
   good-list = good-cases (eqb (p .number) 255) refl g ∙ go (eqb (p .number) 255)
     where
-      go : (b : Bool) → cond b none (some (types p)) ≡ lift (λ n. unpack n (p .types)) (cond b none (some (p .number)))
+      go : (b : Bool) → cond b none (some (types p)) ≡ mapOption (λ n. unpack n (p .types)) (cond b none (some (p .number)))
       go true = refl
       go false = refl
 

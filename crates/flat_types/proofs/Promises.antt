@@ -4,7 +4,7 @@ use mathlib.Core.Bool.{true}
 use mathlib.Core.List.{List, [], _∷_, _++_}
 use mathlib.Core.Option.{Option}
 use Prim.Native.Nat.{ℕ}
-use Rattle.canon.specs.Answer.{lift, lift2}
+use Rattle.canon.specs.Answer.{mapOption, mapOption2}
 use Rattle.canon.specs.Layout.{Memory, mem32, mem64, within}
 use Rattle.canon.specs.Flat.{ptrType, joinLists, addFlat, maxFlat}
 use Rattle.canon.specs.Pack.{Packed, unpack}
@@ -60,31 +60,31 @@ module _ (f g r : FlatTypes) (p : goodFlat f ≡ true) (q : goodFlat g ≡ true)
   abbrev b : Option ℕ
   b = countOf (g .count)
 
-  pub append-holds : append.Post tt (f, (g, tt)) r (f, (g, tt)) → Holds r (λ m. lift2 _++_ (flatIn m f) (flatIn m g))
+  pub append-holds : append.Post tt (f, (g, tt)) r (f, (g, tt)) → Holds r (λ m. mapOption2 _++_ (flatIn m f) (flatIn m g))
   append-holds post m =
       ap (memoryWords m)
       (post ∙ ap₂ (appendTo 16) (in-both (bothWords f) a (types f) (good-row f p)) (in-both (bothWords g) b (types g) (good-row g q))
       ∙ append-row a b (types f) (types g) (counted f p) (counted g q))
       ∙ both-in (addFlat a b) (λ i. types f i ++ types g i) (counted-append a b (types f mem32) (types g mem32) (counted f p mem32) (counted g q mem32)) m
       ∙ sym (append-words a b (types f m) (types g m) (counted f p m) (counted g q m))
-      ∙ ap₂ (λ (x y : Packed). packed (lift2 _++_ (unpacked x) (unpacked y))) (sym (good-row f p m)) (sym (good-row g q m))
+      ∙ ap₂ (λ (x y : Packed). packed (mapOption2 _++_ (unpacked x) (unpacked y))) (sym (good-row f p m)) (sym (good-row g q m))
 
-  pub join-holds : join.Post tt (f, (g, tt)) r (f, (g, tt)) → Holds r (λ m. lift2 joinLists (flatIn m f) (flatIn m g))
+  pub join-holds : join.Post tt (f, (g, tt)) r (f, (g, tt)) → Holds r (λ m. mapOption2 joinLists (flatIn m f) (flatIn m g))
   join-holds post m =
       ap (memoryWords m)
       (post ∙ ap₂ joined (in-both (bothWords f) a (types f) (good-row f p)) (in-both (bothWords g) b (types g) (good-row g q))
       ∙ join-row a b (types f) (types g) (counted f p) (counted g q))
       ∙ both-in (maxFlat a b) (λ i. joinLists (types f i) (types g i)) (counted-join a b (types f mem32) (types g mem32) (counted f p mem32) (counted g q mem32)) m
       ∙ sym (join-words a b (types f m) (types g m) (counted f p m) (counted g q m))
-      ∙ ap₂ (λ (x y : Packed). packed (lift2 joinLists (unpacked x) (unpacked y))) (sym (good-row f p m)) (sym (good-row g q m))
+      ∙ ap₂ (λ (x y : Packed). packed (mapOption2 joinLists (unpacked x) (unpacked y))) (sym (good-row f p m)) (sym (good-row g q m))
 
 -- a discriminant is one I32 in front
 pub with-discriminant-holds :
-    (f r : FlatTypes) → goodFlat f ≡ true → with-discriminant.Post tt (f, tt) r (f, tt) → Holds r (λ m. lift (λ l. I32 ∷ l) (flatIn m f))
+    (f r : FlatTypes) → goodFlat f ≡ true → with-discriminant.Post tt (f, tt) r (f, tt) → Holds r (λ m. mapOption (λ l. I32 ∷ l) (flatIn m f))
 unfolding goodFlat goodCount unusedZero unpacked unpack
 with-discriminant-holds f r q post m = append-holds (record { count = 1; words = 0 }) f r refl q post m ∙ go m (flatIn m f)
   where
-    go : (m : Memory) (o : Option (List Core)) → packed (lift2 _++_ (flatIn m (record { count = 1; words = 0 })) o) ≡ packed (lift (λ l. I32 ∷ l) o)
+    go : (m : Memory) (o : Option (List Core)) → packed (mapOption2 _++_ (flatIn m (record { count = 1; words = 0 })) o) ≡ packed (mapOption (λ l. I32 ∷ l) o)
     go mem32 o = refl
     go mem64 o = refl
 
@@ -100,10 +100,10 @@ good-packed p good = let g = both-true (goodCount (countOf (p .number))) (unused
 
 pub list-append-holds :
     (f g r : FlatList) → goodWords (words f) ≡ true → goodWords (words g) ≡ true →
-    list-append.Post tt (f, (g, tt)) r (f, (g, tt)) → words r ≡ packed (lift2 _++_ (flat f) (flat g))
+    list-append.Post tt (f, (g, tt)) r (f, (g, tt)) → words r ≡ packed (mapOption2 _++_ (flat f) (flat g))
 list-append-holds f g r p q post = post ∙ ap₂ (appendTo 16) (good-packed (words f) p) (good-packed (words g) q) ∙ append-packed (flat f) (flat g)
 
 pub with-pointer-holds :
     (f : FlatList) (m : declared.Memory) (r : FlatList) → goodWords (words f) ≡ true →
-    with-pointer.Post tt (f, (m, tt)) r (f, (m, tt)) → words r ≡ packedTo 17 (lift (λ l. l ++ ptrType (memoryOf m) ∷ []) (flat f))
+    with-pointer.Post tt (f, (m, tt)) r (f, (m, tt)) → words r ≡ packedTo 17 (mapOption (λ l. l ++ ptrType (memoryOf m) ∷ []) (flat f))
 with-pointer-holds f m r good post = post ∙ pointer-packed (memoryOf m) (words f) (good-packed (words f) good)

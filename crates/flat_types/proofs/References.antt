@@ -9,7 +9,7 @@ use lib.Bits.{bitAnd, and-le-r}
 use lib.Dec.{eqb}
 use lib.ListN.{length, getElem?}
 use borrow.Author.Tests.{ne-eqb}
-use Rattle.canon.specs.Answer.{lift}
+use Rattle.canon.specs.Answer.{mapOption}
 use Rattle.canon.specs.Layout.{Memory}
 use Rattle.canon.specs.Flat.{flatten}
 use Rattle.canon.specs.Pack.{pack}
@@ -32,11 +32,11 @@ same-below (suc n) f g e (suc k) h = same-below n (λ i. f (suc i)) (λ i. g (su
 abbrev pub codeAt : ℕ → ℕ
 codeAt k = bitAnd (3751936 / 2 ^ (k * 2)) 3
 
-pub scalar-code : (m : Memory) (k : ℕ) → k ≤ 17 → (k ≡ 12 → ⊥) → record { number = 1; types = codeAt k } ≡ packed (lift (flatten m) (getElem? plain k))
+pub scalar-code : (m : Memory) (k : ℕ) → k ≤ 17 → (k ≡ 12 → ⊥) → record { number = 1; types = codeAt k } ≡ packed (mapOption (flatten m) (getElem? plain k))
 unfolding packedTo pack flatten
 scalar-code m k h s =
     rw (ne-eqb k 12 s)
-    at (same-below 18 (λ i. cond (eqb i 12) noList (record { number = 1; types = codeAt i })) (λ i. cond (eqb i 12) noList (packed (lift (flatten m) (getElem? plain i)))) refl k (omega arith))
+    at (same-below 18 (λ i. cond (eqb i 12) noList (record { number = 1; types = codeAt i })) (λ i. cond (eqb i 12) noList (packed (mapOption (flatten m) (getElem? plain i)))) refl k (omega arith))
 
 pub past : {A : Type 0} (l : List A) (i : ℕ) → length l ≤ i → getElem? l i ≡ none
 past [] i h = refl

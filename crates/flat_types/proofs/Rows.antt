@@ -8,7 +8,7 @@ use native.Mathlib.Omega.{arith}
 use lib.Dec.{leb}
 use lib.ListN.{length, length-append, getElem?}
 use borrow.Author.Tests.{le-leb, lt-leb, leb-true, leb-false}
-use Rattle.canon.specs.Answer.{lift, lift2}
+use Rattle.canon.specs.Answer.{mapOption, mapOption2}
 use Rattle.canon.specs.Types.{Ty, Core, I32, plain}
 use Rattle.canon.specs.Layout.{Memory, mem32, mem64, both, within}
 use Rattle.canon.specs.Flat.{
@@ -61,7 +61,7 @@ pair k l m = within m (record { in32 = k; in64 = l })
 
 -- the list, where there is a count
 abbrev given : Option ℕ → List Core → Option (List Core)
-given o l = lift (λ _. l) o
+given o l = mapOption (λ _. l) o
 
 pub words-given : (o : Option ℕ) (l : List Core) → Counted o l → rowFlat o l ≡ packed (given o l)
 unfolding packedTo
@@ -84,30 +84,30 @@ capped-words n l e = go (leb n 16) refl
 -- One step in one memory
 
 module _ (a b : Option ℕ) (k l : List Core) (p : Counted a k) (q : Counted b l) where
-  pub append-words : packed (lift2 _++_ (unpacked (rowFlat a k)) (unpacked (rowFlat b l))) ≡ rowFlat (addFlat a b) (k ++ l)
+  pub append-words : packed (mapOption2 _++_ (unpacked (rowFlat a k)) (unpacked (rowFlat b l))) ≡ rowFlat (addFlat a b) (k ++ l)
   unfolding addFlat packedTo
   append-words = rw (list-words a k p, list-words b l q) (go a b p q)
     where
-      go : (a b : Option ℕ) → Counted a k → Counted b l → packed (lift2 _++_ (given a k) (given b l)) ≡ rowFlat (addFlat a b) (k ++ l)
+      go : (a b : Option ℕ) → Counted a k → Counted b l → packed (mapOption2 _++_ (given a k) (given b l)) ≡ rowFlat (addFlat a b) (k ++ l)
       go none b p q = refl
       go (some i) none p q = refl
       go (some i) (some j) p q = capped-words (i + j) (k ++ l) (omega (arith, length-append k l, p i refl, q j refl))
 
-  pub join-words : packed (lift2 joinLists (unpacked (rowFlat a k)) (unpacked (rowFlat b l))) ≡ rowFlat (maxFlat a b) (joinLists k l)
+  pub join-words : packed (mapOption2 joinLists (unpacked (rowFlat a k)) (unpacked (rowFlat b l))) ≡ rowFlat (maxFlat a b) (joinLists k l)
   unfolding maxFlat packedTo
   join-words = rw (list-words a k p, list-words b l q) (go a b p q)
     where
-      go : (a b : Option ℕ) → Counted a k → Counted b l → packed (lift2 joinLists (given a k) (given b l)) ≡ rowFlat (maxFlat a b) (joinLists k l)
+      go : (a b : Option ℕ) → Counted a k → Counted b l → packed (mapOption2 joinLists (given a k) (given b l)) ≡ rowFlat (maxFlat a b) (joinLists k l)
       go none b p q = refl
       go (some i) none p q = refl
       go (some i) (some j) p q = sym (words-given (maxFlat (some i) (some j)) (joinLists k l) (counted-join (some i) (some j) k l p q))
 
 module _ (a : Option ℕ) (l : List Core) (p : Counted a l) where
-  pub repeat-words : (n : ℕ) → packed (lift (copies n) (unpacked (rowFlat a l))) ≡ rowFlat (timesFlat a n) (copies n l)
+  pub repeat-words : (n : ℕ) → packed (mapOption (copies n) (unpacked (rowFlat a l))) ≡ rowFlat (timesFlat a n) (copies n l)
   unfolding timesFlat packedTo
   repeat-words n = rw (list-words a l p) (go a p)
     where
-      go : (a : Option ℕ) → Counted a l → packed (lift (copies n) (given a l)) ≡ rowFlat (timesFlat a n) (copies n l)
+      go : (a : Option ℕ) → Counted a l → packed (mapOption (copies n) (given a l)) ≡ rowFlat (timesFlat a n) (copies n l)
       go none p = refl
       go (some i) p = capped-words (i * n) (copies n l) (length-copies n l ∙ ap (λ (x : ℕ). x * n) (p i refl .0))
 
@@ -236,7 +236,7 @@ at-each P (u ∷ ts) w (suc k) t e = at-each P ts (w .1) k t e
 pub plain-words :
     (m : Memory) (w : ℕ) (t : Ty) →
     getElem? plain w ≡ some t →
-    packed (lift (flatten m) (getElem? plain w)) ≡ rowFlat (flatCount t) (flatten m t)
+    packed (mapOption (flatten m) (getElem? plain w)) ≡ rowFlat (flatCount t) (flatten m t)
 unfolding packedTo flatten flatCount
 plain-words m w t e =
     rw e

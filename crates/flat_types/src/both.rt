@@ -3,7 +3,7 @@
 ghost use mathlib.Core.Path.{_≡_};
 ghost use mathlib.Core.Option.{some, Option·getD};
 ghost use lib.ListN.{getElem?};
-ghost use Rattle.canon.specs.Answer.{lift};
+ghost use Rattle.canon.specs.Answer.{mapOption};
 ghost use Rattle.canon.specs.Types as trees;
 ghost use Rattle.canon.specs.Flat.{copies, flagsFlat, flatten};
 ghost use Rattle.canon.specs.Row.{countOf};
@@ -19,6 +19,7 @@ use crate::packed::unused_zero;
 use crate::repeat::repeat_words;
 use types::MAX_FLAT_TYPES;
 use types::Memory;
+use types::NO_FLAT_COUNT;
 use types::max;
 
 pub struct FlatTypes {
@@ -33,14 +34,14 @@ const SCALARS: u64 = 0x39_4000;
 fn types_of(count: u32) -> u32
     ensures { λ r. ⌜ r ≡ Option·getD (countOf count) 0 ⌝ }
 {
-    if count == 255 { 0 } else { count }
+    if count == NO_FLAT_COUNT { 0 } else { count }
 }
 
 impl FlatTypes {
     pub const EMPTY: FlatTypes = FlatTypes { count: 0, words: 0 };
 
     pub const NONE: FlatTypes = FlatTypes {
-        count: 255,
+        count: NO_FLAT_COUNT,
         words: 0,
     };
 
@@ -79,7 +80,7 @@ impl FlatTypes {
 
     // Gives the list of a reference without a definition, none for every other word.
     pub fn plain(reference: u32) -> FlatTypes
-        ensures { λ r. ⌜ Holds r (λ m. lift (flatten m) (getElem? trees.plain reference)) ⌝ }
+        ensures { λ r. ⌜ Holds r (λ m. mapOption (flatten m) (getElem? trees.plain reference)) ⌝ }
     {
         if reference > 17 {
             return FlatTypes::NONE;
@@ -105,7 +106,7 @@ impl FlatTypes {
         }
     }
 
-    // Puts the words of both memories into one.
+    // Takes the words of both memories as one list, so that one shift appends to both.
     fn list(self) -> FlatList
         ensures { λ r. ⌜ words r ≡ bothWords self ⌝ }
     {
@@ -150,7 +151,7 @@ impl FlatTypes {
 
     // Repeats the element's list n times for a fixed list.
     pub fn repeat(self, n: u32) -> FlatTypes
-        ensures { λ r. ⌜ Holds r (λ m. lift (copies n) (flatIn m self)) ⌝ }
+        ensures { λ r. ⌜ Holds r (λ m. mapOption (copies n) (flatIn m self)) ⌝ }
     {
         let m = self.count;
         if m > MAX_FLAT_TYPES {

@@ -1,5 +1,5 @@
-// A flat list in one memory has at most 16 types, or 17 where a pointer was put behind them, in 34 bits.
-// A count above 16 is read as no list; 255 is written for it.
+// A flat list has at most 16 types, or 17 where a signature puts a pointer behind them, two bits each. The bits are one memory's, or
+// both memories' where `FlatTypes` takes one step for both. A greater count is no list, and 255 is written for it.
 ghost use mathlib.Core.Path.{_≡_};
 ghost use Prim.Native.Nat.{_≤_};
 ghost use Rattle.canon.specs.Flat.{ptrType};
@@ -9,6 +9,7 @@ ghost use Rattle.flat_types.specs.Lists.{words};
 ghost use Rattle.flat_types.specs.Places.{appendTo};
 use types::MAX_FLAT_TYPES;
 use types::Memory;
+use types::NO_FLAT_COUNT;
 
 pub struct FlatList {
     pub count: u32,
@@ -29,12 +30,12 @@ impl FlatList {
     pub const EMPTY: FlatList = FlatList { count: 0, types: 0 };
 
     pub const NONE: FlatList = FlatList {
-        count: 255,
+        count: NO_FLAT_COUNT,
         types: 0,
     };
 
     // Puts one list behind another; more than max types are none. Nothing is masked: the lists of good rows have no unused bits.
-    pub(crate) fn append_to(self, max: u32, next: FlatList) -> FlatList
+    fn append_to(self, max: u32, next: FlatList) -> FlatList
         requires { ⌜ max ≤ 17 ⌝ }
         ensures { λ r. ⌜ words r ≡ appendTo max (words self) (words next) ⌝ }
     {

@@ -52,39 +52,59 @@ const NUMBERS: u32 = 0b01_00_00_01_01_00_00_00_00_00_00;
 // .. and how many words the whole body has but for references that are counted.
 const LENGTHS: u32 = 0b10_10_01_01_01_10_01_01_01_01_00;
 
+// The kind words of 01, which are the first words of rows too.
+pub const RECORD: u32 = 1;
+
+pub const VARIANT: u32 = 2;
+
+pub const LIST: u32 = 3;
+
+pub const TUPLE: u32 = 4;
+
+pub const MAP: u32 = 5;
+
+pub const FLAGS: u32 = 6;
+
+pub const ENUM: u32 = 7;
+
+pub const OPTION: u32 = 8;
+
+pub const RESULT: u32 = 9;
+
+pub const FIXED_LENGTH_LIST: u32 = 10;
+
 fn kind_of(word: u32) -> Kinded
     ensures { λ r. ⌜ kindedMeans r ≡ kindOf word ⌝ }
 {
     match word {
-        1 => Kinded::Kind(Kind::Record),
-        2 => Kinded::Kind(Kind::Variant),
-        3 => Kinded::Kind(Kind::List),
-        4 => Kinded::Kind(Kind::Tuple),
-        5 => Kinded::Kind(Kind::Map),
-        6 => Kinded::Kind(Kind::Flags),
-        7 => Kinded::Kind(Kind::Enum),
-        8 => Kinded::Kind(Kind::Option),
-        9 => Kinded::Kind(Kind::Result),
-        10 => Kinded::Kind(Kind::FixedLengthList),
+        RECORD => Kinded::Kind(Kind::Record),
+        VARIANT => Kinded::Kind(Kind::Variant),
+        LIST => Kinded::Kind(Kind::List),
+        TUPLE => Kinded::Kind(Kind::Tuple),
+        MAP => Kinded::Kind(Kind::Map),
+        FLAGS => Kinded::Kind(Kind::Flags),
+        ENUM => Kinded::Kind(Kind::Enum),
+        OPTION => Kinded::Kind(Kind::Option),
+        RESULT => Kinded::Kind(Kind::Result),
+        FIXED_LENGTH_LIST => Kinded::Kind(Kind::FixedLengthList),
         _ => Kinded::Bad,
     }
 }
 
-// The kind word, which is the first word of a row too.
 pub fn kind_word(kind: Kind) -> u32
     ensures { λ r. ⌜ r ≡ kindWord (kindMeans kind) ⌝ }
 {
     match kind {
-        Kind::Record => 1,
-        Kind::Variant => 2,
-        Kind::List => 3,
-        Kind::Tuple => 4,
-        Kind::Map => 5,
-        Kind::Flags => 6,
-        Kind::Enum => 7,
-        Kind::Option => 8,
-        Kind::Result => 9,
-        Kind::FixedLengthList => 10,
+        Kind::Record => RECORD,
+        Kind::Variant => VARIANT,
+        Kind::List => LIST,
+        Kind::Tuple => TUPLE,
+        Kind::Map => MAP,
+        Kind::Flags => FLAGS,
+        Kind::Enum => ENUM,
+        Kind::Option => OPTION,
+        Kind::Result => RESULT,
+        Kind::FixedLengthList => FIXED_LENGTH_LIST,
     }
 }
 

@@ -10,6 +10,7 @@ use native.Mathlib.Omega.{arith}
 use lib.ListN.{length, getD, take, drop, length-take, length-map, take-append-drop}
 use lib.Seq.{take-suc, take-all, length-take-le}
 use borrow.Author.Tests.{le-ltb}
+use Rattle.build.specs.Means.{accepted}
 use Rattle.canon.specs.Answer.{Answer, unless, tooLong, truncated}
 use Rattle.canon.specs.Description.{Built, answered, built, buildAnswer, tableAfter}
 use Rattle.canon.specs.Placement.{Every}
@@ -25,7 +26,7 @@ use Rattle.table.proofs.Reading.{row-there, put-there}
 use Rattle.words.specs.Words.{wholeWords, putWords}
 use Rattle.words.proofs.Laws.{length-whole, whole-take, whole-small, put-all, puts-front, puts-over}
 use Rattle.host.specs.Bytes.{tooManyBytes, cutBytes, buildBytes, tableBytes}
-use Rattle.host.specs.Local.{accepted, withRows}
+use Rattle.host.specs.Local.{withRows}
 use Rattle.host.specs.Numbers.{answerNumber, itself}
 use Rattle.host.proofs.Decoded.{table-put}
 

@@ -10,7 +10,7 @@ use Rattle.types.specs.Leaves.{VariantAbi, infoAlone, variantAnswer}
 use Rattle.types.specs.Means.{numberOf}
 use Rattle.types.specs.declared.refusal.Refusal.{Refusal}
 use Rattle.types.specs.declared.refusal.Refusal.the-variants.{TooLong, Truncated, BadKind, BadRef, BadCount, TooLarge, NoRoom, BadRow}
-use Rattle.types.specs.States.{Cases, noCases, addCases, closeCases}
+use Rattle.types.specs.States.{CaseState, noCases, addCases, closeCases}
 use Rattle.types.proofs.VariantLaws.{variant-answer}
 use Rattle.host.specs.Numbers.{chosen, leafNumber, abiWords, innerWords, variantWords}
 use Rattle.host.proofs.Chosen.{chosen-front, chosen-past}
@@ -37,7 +37,7 @@ of-inner k (is v) h = sym (chosen-past (abiWords (v .abi)) (innerWords v) k h (l
 of-inner k (no x) h = refl
 
 -- of the state that the cases gave
-module _ (k : ℕ) (cs : List (Option Abi)) {s : Cases} (read : s ≡ addCases noCases cs) where
+module _ (k : ℕ) (cs : List (Option Abi)) {s : CaseState} (read : s ≡ addCases noCases cs) where
   closed : closeCases s ≡ variantAnswer cs
   closed = ap closeCases read ∙ variant-answer cs
 

@@ -19,7 +19,7 @@ use Rattle.signature.specs.Packs.{PackedSignature}
 abbrev pub memoryAt : ℕ → Memory
 memoryAt x = cond (eqb x 0) mem32 mem64
 
--- "A side is 0 for sync, any other number for async"
+-- "Async is 0 for sync, any other number for async"
 abbrev pub isSet : ℕ → Bool
 isSet x = not (eqb x 0)
 

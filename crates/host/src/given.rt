@@ -6,7 +6,9 @@ ghost use Rattle.host.specs.Numbers.{memoryAt, isSet, sideAt, flatAt, in
 use signature::Side;
 use types::CanonicalAbiInfo;
 use types::FlatCount;
+use types::MAX_FLAT_TYPES;
 use types::Memory;
+use types::NO_FLAT_COUNT;
 
 // A memory is 0 for 32-bit, any other number for 64-bit.
 pub(crate) fn memory_at(memory: u32) -> Memory
@@ -19,7 +21,7 @@ pub(crate) fn memory_at(memory: u32) -> Memory
     }
 }
 
-// A side is 0 for sync, any other number for async.
+// Async is 0 for sync, any other number for async.
 fn is_set(x: u32) -> bool
     ensures { λ r. ⌜ r ≡ isSet x ⌝ }
 {
@@ -39,28 +41,30 @@ pub(crate) fn side_at(memory: u32, async_: u32) -> Side
 pub(crate) fn flat_at(flat: u32) -> FlatCount
     ensures { λ r. ⌜ countMeans r ≡ flatAt flat ⌝ }
 {
-    if flat <= 254 {
+    if flat < NO_FLAT_COUNT {
         FlatCount::Count(flat as u8)
     } else {
         FlatCount::None
     }
 }
 
-// None is 255. Of the counts above 16, 01's most, 17 stands for all: such an info is bad, whichever it is.
+// Of the counts above 01's most, the next one stands for all: such an info is bad, whichever it is.
+const BAD_COUNT: u8 = MAX_FLAT_TYPES as u8 + 1;
+
 fn info_flat_at(flat: u32) -> FlatCount
     ensures { λ r. ⌜ countMeans r ≡ infoFlatAt flat ⌝ }
 {
-    if flat <= 16 {
+    if flat <= MAX_FLAT_TYPES {
         return FlatCount::Count(flat as u8);
     }
-    if flat == 255 {
+    if flat == NO_FLAT_COUNT {
         FlatCount::None
     } else {
-        FlatCount::Count(17)
+        FlatCount::Count(BAD_COUNT)
     }
 }
 
-pub(crate) fn abi_at(
+pub(crate) fn info_of(
     size32: u32,
     align32: u32,
     size64: u32,

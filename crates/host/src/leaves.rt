@@ -6,16 +6,18 @@ ghost use Rattle.canon.specs.Row.{countWord};
 ghost use Rattle.types.specs.Leaves.{alignTo, nextField, discriminantAnswer, flagsAnswer, enumAnswer, fixedAnswer};
 ghost use Rattle.types.specs.Means.{abiMeans, nextMeans};
 ghost use Rattle.host.specs.Numbers.{memoryAt, flatAt, abiAt, leafNumber, itself, chosen, abiWords, fieldWords};
-use crate::given::abi_at;
 use crate::given::flat_at;
-use crate::packing::abi_number;
+use crate::given::info_of;
+use crate::given::memory_at;
 use crate::packing::discriminant_number;
 use crate::packing::field_number;
 use crate::packing::flat_number;
+use crate::packing::info_number;
 use crate::packing::rounded_number;
 use crate::packing::wide;
 use types::CanonicalAbiInfo;
 use types::DiscriminantSize;
+use types::Memory;
 use types::NextField;
 
 // Refuses BadRow for what is no alignment, then TooLarge for the rounded number.
@@ -53,10 +55,9 @@ pub extern "C" fn lampughjata_max_flat(a: u32, b: u32) -> u64
 fn next_field(memory: u32, info: CanonicalAbiInfo, end: u32) -> NextField
     ensures { λ r. ⌜ nextMeans r ≡ nextField (memoryAt memory) (abiMeans info) end ⌝ }
 {
-    if memory == 0 {
-        info.next_field32(end)
-    } else {
-        info.next_field64(end)
+    match memory_at(memory) {
+        Memory::Memory32 => info.next_field32(end),
+        Memory::Memory64 => info.next_field64(end),
     }
 }
 
@@ -74,7 +75,7 @@ pub extern "C" fn lampughjata_next_field(
 ) -> u64
     ensures { λ r. ⌜ r ≡ leafNumber (λ f. chosen k (fieldWords f)) (nextField (memoryAt memory) (abiAt size32 align32 size64 align64 flat) end) ⌝ }
 {
-    let info = abi_at(size32, align32, size64, align64, flat);
+    let info = info_of(size32, align32, size64, align64, flat);
     field_number(next_field(memory, info, end), k)
 }
 
@@ -83,7 +84,7 @@ pub extern "C" fn lampughjata_next_field(
 pub extern "C" fn lampughjata_flags(count: u32, k: u32) -> u64
     ensures { λ r. ⌜ r ≡ leafNumber (λ a. chosen k (abiWords a)) (flagsAnswer count) ⌝ }
 {
-    abi_number(CanonicalAbiInfo::flags(count), k)
+    info_number(CanonicalAbiInfo::flags(count), k)
 }
 
 // Refuses BadCount for no case.
@@ -91,7 +92,7 @@ pub extern "C" fn lampughjata_flags(count: u32, k: u32) -> u64
 pub extern "C" fn lampughjata_enum(count: u32, k: u32) -> u64
     ensures { λ r. ⌜ r ≡ leafNumber (λ a. chosen k (abiWords a)) (enumAnswer count) ⌝ }
 {
-    abi_number(CanonicalAbiInfo::enum_(count), k)
+    info_number(CanonicalAbiInfo::enum_(count), k)
 }
 
 // Refuses BadRow for a bad info, then TooLarge for the size in either memory.
@@ -107,8 +108,8 @@ pub extern "C" fn lampughjata_fixed_length_list(
 ) -> u64
     ensures { λ r. ⌜ r ≡ leafNumber (λ a. chosen k (abiWords a)) (fixedAnswer (abiAt size32 align32 size64 align64 flat) count) ⌝ }
 {
-    let info = abi_at(size32, align32, size64, align64, flat);
-    abi_number(info.fixed_length_list(count), k)
+    let info = info_of(size32, align32, size64, align64, flat);
+    info_number(info.fixed_length_list(count), k)
 }
 
 // Refuses BadCount for no case.

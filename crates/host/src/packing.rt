@@ -10,6 +10,7 @@ ghost use Rattle.questions.specs.Means.{typeInfoMeans, typeMeans, layoutAnswerM
 ghost use Rattle.signature.specs.Means.{flattenedMeans, borrowMeans, signatureAnswerMeans};
 ghost use Rattle.host.specs.Numbers.{refusalNumber, answerNumber, yesNumber, leafNumber, itself, chosen, abiWords, innerWords, fieldWords, typeWords, layoutNumber, placementNumber, listNumber, flattenedNumber, signatureLists};
 ghost use Rattle.host.specs.Short.{ShortList, ShortFlat, ShortSignature, IfAnswered};
+use crate::lent::INFO_WORDS;
 use build::Built;
 use flat_types::FlatList;
 use questions::LayoutAnswer;
@@ -23,6 +24,7 @@ use types::DiscriminantAnswer;
 use types::FlatCount;
 use types::InfoAnswer;
 use types::Layout;
+use types::NO_FLAT_COUNT;
 use types::NextField;
 use types::Refusal;
 use types::Rounded;
@@ -73,13 +75,12 @@ pub(crate) fn rounded_number(answer: Rounded) -> u64
     }
 }
 
-// None is answered as 255, as in word 5 of a row.
 pub(crate) fn flat_number(count: FlatCount) -> u32
     ensures { λ r. ⌜ r ≡ countWord (countMeans count) ⌝ }
 {
     match count {
         FlatCount::Count(n) => n as u32,
-        FlatCount::None => 255,
+        FlatCount::None => NO_FLAT_COUNT,
     }
 }
 
@@ -93,7 +94,7 @@ pub(crate) fn discriminant_number(answer: DiscriminantAnswer) -> u64
 }
 
 // Gives the five numbers of an info, in the order of words 1 to 5 of a row.
-fn abi_words(info: CanonicalAbiInfo) -> [u32; 5]
+fn info_words(info: CanonicalAbiInfo) -> [u32; INFO_WORDS]
     ensures { λ r. ⌜ r ≡ abiWords (abiMeans info) ⌝ }
 {
     let flat = info.flat_count;
@@ -106,12 +107,12 @@ fn abi_words(info: CanonicalAbiInfo) -> [u32; 5]
     ]
 }
 
-pub(crate) fn abi_number(answer: InfoAnswer, k: u32) -> u64
+pub(crate) fn info_number(answer: InfoAnswer, k: u32) -> u64
     ensures { λ r. ⌜ r ≡ leafNumber (λ a. chosen k (abiWords a)) (infoAnswerMeans answer) ⌝ }
 {
     match answer {
         InfoAnswer::Info(info) => {
-            let words = abi_words(info);
+            let words = info_words(info);
             choose(&words, k)
         }
         InfoAnswer::Refused(why) => refused(why, 0),

@@ -9,12 +9,22 @@ ghost use Rattle.words.specs.Words.{wholeWords};
 ghost use Rattle.host.specs.Picked.{readPicked, Keeps, Names};
 use table::DefinitionIndex;
 use table::FIRST_DEFINITION;
+use table::ROW_WORDS;
+use table::TABLE_WORDS;
 use table::capacity;
 use table::take_row;
 use words::word_at;
 
-// The most references of a list whose rows are picked.
+// No call reads more bytes of a table, so that a longer one is cut.
+pub(crate) const TABLE_BYTES: usize = 4 * TABLE_WORDS;
+
+// The most references of a list whose rows are picked, each to a slot of its own.
 pub(crate) const SHORT_LIST: usize = 16;
+
+pub(crate) const SLOTS: u32 = SHORT_LIST as u32;
+
+// The picked rows of one list take so many.
+pub(crate) const PICKED_WORDS: usize = SHORT_LIST * ROW_WORDS;
 
 // Names no type: 01 has plain references up to 17, and definitions from 64 on.
 const BAD_REFERENCE: u32 = 63;

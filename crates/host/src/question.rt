@@ -5,7 +5,10 @@ ghost use lib.ListN.{length};
 ghost use Rattle.words.specs.Words.{wholeWords};
 ghost use Rattle.host.specs.Questions.{questionNumber};
 use crate::packing::refused;
+use crate::pick::PICKED_WORDS;
 use crate::pick::SHORT_LIST;
+use crate::pick::SLOTS;
+use crate::pick::TABLE_BYTES;
 use crate::pick::no_rows;
 use crate::pick::pick_rows;
 use crate::signatures::lampughjata_async_return;
@@ -14,8 +17,13 @@ use crate::signatures::lampughjata_contains_borrow;
 use crate::signatures::lampughjata_flatten;
 use crate::signatures::lampughjata_lifting;
 use crate::signatures::lampughjata_lowering;
+use questions::MOST_REFERENCES;
+use table::TABLE_WORDS;
 use types::Refusal;
 use words::words_of;
+
+// The slots of the second list come after those of the first.
+const BOTH_SLOTS: u32 = 2 * SLOTS;
 
 // Each has the numbers that the call of the same name takes beside the table and the lists.
 pub(crate) enum Question {
@@ -47,14 +55,23 @@ fn ask(question: Question, table: &[u32], rows: u32, first: &[u32], second: &[u3
             rows,
             first,
         ),
-        Question::AsyncStart(lower, lower_async, lift, k) => {
-            lampughjata_async_start(lower, lower_async, lift, table, rows, first, second, k)
+        Question::AsyncStart(lower_memory, lower_async, lift_memory, k) => {
+            lampughjata_async_start(
+                lower_memory,
+                lower_async,
+                lift_memory,
+                table,
+                rows,
+                first,
+                second,
+                k,
+            )
         }
-        Question::AsyncReturn(lift, lift_async, lower, lower_async, k) => {
+        Question::AsyncReturn(lift_memory, lift_async, lower_memory, lower_async, k) => {
             lampughjata_async_return(
-                lift,
+                lift_memory,
                 lift_async,
-                lower,
+                lower_memory,
                 lower_async,
                 table,
                 rows,
@@ -71,16 +88,15 @@ fn ask(question: Question, table: &[u32], rows: u32, first: &[u32], second: &[u3
 fn ask_long(question: Question, table: &[u8], rows: u32, first: &[u8], second: &[u8]) -> u64
     ensures { λ r. ⌜ r ≡ questionNumber question (wholeWords (now (table .entry))) rows (wholeWords (now (first .entry))) (wholeWords (now (second .entry))) ⌝ }
 {
-    let mut ts = [0u32; 16384];
+    let mut ts = [0u32; TABLE_WORDS];
     let room = words_of(table, &mut ts);
-    let mut vs = [0u32; 16385];
+    let mut vs = [0u32; MOST_REFERENCES + 1];
     let firsts = words_of(first, &mut vs);
-    let mut ws = [0u32; 16385];
+    let mut ws = [0u32; MOST_REFERENCES + 1];
     let seconds = words_of(second, &mut ws);
     ask(question, &ts[..room], rows, &vs[..firsts], &ws[..seconds])
 }
 
-// Each list has sixteen slots for its rows.
 fn ask_short(question: Question, table: &[u8], rows: u32, first: &[u8], second: &[u8]) -> u64
     requires { ⌜ (length (now first) / 4 ≤ 16) × (length (now second) / 4 ≤ 16) ⌝ }
     ensures { λ r. ⌜ r ≡ questionNumber question (wholeWords (now (table .entry))) rows (wholeWords (now (first .entry))) (wholeWords (now (second .entry))) ⌝ }
@@ -88,12 +104,12 @@ fn ask_short(question: Question, table: &[u8], rows: u32, first: &[u8], second: 
     if no_rows(table, rows) {
         return refused(Refusal::BadRow, 0);
     }
-    let mut picked = [0u32; 512];
-    let mut vs = [0u32; 16];
+    let mut picked = [0u32; 2 * PICKED_WORDS];
+    let mut vs = [0u32; SHORT_LIST];
     let firsts = pick_rows(table, rows, first, &mut picked, 0, &mut vs);
-    let mut ws = [0u32; 16];
-    let seconds = pick_rows(table, rows, second, &mut picked, 16, &mut ws);
-    ask(question, &picked, 32, &vs[..firsts], &ws[..seconds])
+    let mut ws = [0u32; SHORT_LIST];
+    let seconds = pick_rows(table, rows, second, &mut picked, SLOTS, &mut ws);
+    ask(question, &picked, BOTH_SLOTS, &vs[..firsts], &ws[..seconds])
 }
 
 // A longer table answers as its first 65,536 bytes do. It is cut by a call of itself, since the compiler takes no large frame into a function that
@@ -107,8 +123,8 @@ pub(crate) fn ask_bytes(
 ) -> u64
     ensures { λ r. ⌜ r ≡ questionNumber question (wholeWords (now (table .entry))) rows (wholeWords (now (first .entry))) (wholeWords (now (second .entry))) ⌝ }
 {
-    if table.len() > 65536 {
-        return ask_bytes(question, &table[..65536], rows, first, second);
+    if table.len() > TABLE_BYTES {
+        return ask_bytes(question, &table[..TABLE_BYTES], rows, first, second);
     }
     if first.len() / 4 > SHORT_LIST {
         return ask_long(question, table, rows, first, second);

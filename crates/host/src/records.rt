@@ -9,43 +9,20 @@ ghost use Rattle.types.specs.States.{recordMeans, noFields, addFields};
 ghost use Rattle.words.specs.Words.{wholeWords};
 ghost use Rattle.host.specs.Infos.{infoAt, several, lentInfos};
 ghost use Rattle.host.specs.Numbers.{leafNumber, chosen, abiWords};
+use crate::lent::INFO_WORDS;
 use crate::lent::info_at;
 use crate::lent::info_at_bytes;
-use crate::packing::abi_number;
+use crate::packing::info_number;
 use types::CanonicalAbiInfo;
 use types::InfoAnswer;
 use types::RecordState;
 
-// Gives the first n infos; those after them say nothing. There is room for four: eight would double the time of a record of one (docs/BENCHMARKS.md).
-fn short_infos(words: &[u32], n: usize) -> [CanonicalAbiInfo; 4]
-    requires { ⌜ (n ≤ 4) × (5 * n ≤ length (now words)) ⌝ }
-    ensures { λ r. ⌜ map abiMeans (take n r) ≡ several (λ j. infoAt (now (words .entry)) (5 * j)) 0 n ⌝ }
-{
-    let mut infos = [CanonicalAbiInfo::ZERO; 4];
-    let mut j: usize = 0;
-    while j < n {
-        infos[j] = info_at(words, 5 * j);
-        j += 1;
-    }
-    infos
-}
+// A record of so many infos over bytes is lent as a slice, and no other: to gather infos in an array takes more time than to add each in its turn.
+const LENT_RECORD: usize = 2;
 
-fn short_infos_bytes(bytes: &[u8], n: usize) -> [CanonicalAbiInfo; 4]
-    requires { ⌜ (n ≤ 4) × (5 * n ≤ length (now bytes) / 4) ⌝ }
-    ensures { λ r. ⌜ map abiMeans (take n r) ≡ several (λ j. infoAt (wholeWords (now (bytes .entry))) (5 * j)) 0 n ⌝ }
-{
-    let mut infos = [CanonicalAbiInfo::ZERO; 4];
-    let mut j: usize = 0;
-    while j < n {
-        infos[j] = info_at_bytes(bytes, 5 * j);
-        j += 1;
-    }
-    infos
-}
-
-// A slice of infos cannot be lent over the boundary, so a short record lends one here.
-fn lent_record(infos: [CanonicalAbiInfo; 4], n: usize) -> InfoAnswer
-    requires { ⌜ n ≤ 4 ⌝ }
+// A slice of infos cannot be lent over the boundary, so that this one is lent here.
+fn lent_record(infos: [CanonicalAbiInfo; LENT_RECORD], n: usize) -> InfoAnswer
+    requires { ⌜ n ≤ 2 ⌝ }
     ensures { λ r. ⌜ infoAnswerMeans r ≡ recordAnswer (map abiMeans (take n infos)) ⌝ }
 {
     CanonicalAbiInfo::record_static(&infos[..n])
@@ -58,7 +35,7 @@ fn fields_of(words: &[u32], n: usize) -> RecordState
     let mut state = RecordState::start();
     let mut j: usize = 0;
     while j < n {
-        state = state.field(info_at(words, 5 * j));
+        state = state.field(info_at(words, INFO_WORDS * j));
         j += 1;
     }
     state
@@ -71,7 +48,7 @@ fn fields_of_bytes(bytes: &[u8], n: usize) -> RecordState
     let mut state = RecordState::start();
     let mut j: usize = 0;
     while j < n {
-        state = state.field(info_at_bytes(bytes, 5 * j));
+        state = state.field(info_at_bytes(bytes, INFO_WORDS * j));
         j += 1;
     }
     state
@@ -80,20 +57,17 @@ fn fields_of_bytes(bytes: &[u8], n: usize) -> RecordState
 fn record_of(words: &[u32]) -> InfoAnswer
     ensures { λ r. ⌜ infoAnswerMeans r ≡ recordAnswer (lentInfos (now (words .entry))) ⌝ }
 {
-    let n = words.len() / 5;
-    if n <= 4 {
-        lent_record(short_infos(words, n), n)
-    } else {
-        CanonicalAbiInfo::record(fields_of(words, n))
-    }
+    let n = words.len() / INFO_WORDS;
+    CanonicalAbiInfo::record(fields_of(words, n))
 }
 
 fn record_of_bytes(bytes: &[u8]) -> InfoAnswer
     ensures { λ r. ⌜ infoAnswerMeans r ≡ recordAnswer (lentInfos (wholeWords (now (bytes .entry)))) ⌝ }
 {
-    let n = bytes.len() / 4 / 5;
-    if n <= 4 {
-        lent_record(short_infos_bytes(bytes, n), n)
+    let n = bytes.len() / 4 / INFO_WORDS;
+    if n == LENT_RECORD {
+        let infos = [info_at_bytes(bytes, 0), info_at_bytes(bytes, INFO_WORDS)];
+        lent_record(infos, n)
     } else {
         CanonicalAbiInfo::record(fields_of_bytes(bytes, n))
     }
@@ -104,12 +78,12 @@ fn record_of_bytes(bytes: &[u8]) -> InfoAnswer
 pub extern "C" fn lampughjata_record(infos: &[u32], k: u32) -> u64
     ensures { λ r. ⌜ r ≡ leafNumber (λ a. chosen k (abiWords a)) (recordAnswer (lentInfos (now (infos .entry)))) ⌝ }
 {
-    abi_number(record_of(infos), k)
+    info_number(record_of(infos), k)
 }
 
 #[no_mangle]
 pub extern "C" fn lampughjata_record_bytes(infos: &[u8], k: u32) -> u64
     ensures { λ r. ⌜ r ≡ leafNumber (λ a. chosen k (abiWords a)) (recordAnswer (lentInfos (wholeWords (now (infos .entry))))) ⌝ }
 {
-    abi_number(record_of_bytes(infos), k)
+    info_number(record_of_bytes(infos), k)
 }

@@ -57,14 +57,14 @@ pub extern "C" fn lampughjata_async_start_bytes(
     lift_memory: u32,
     table: &[u8],
     rows: u32,
-    lower: &[u8],
-    lift: &[u8],
+    lowered: &[u8],
+    lifted: &[u8],
     k: u32,
 ) -> u64
-    ensures { λ r. ⌜ r ≡ answerNumber (λ s. chosen k (signatureLists s)) (packedAnswer (asyncStartAnswer (wholeWords (now (table .entry))) rows (sideAt «lower_memory» «lower_async») (wholeWords (now (lower .entry))) (sideAt «lift_memory» 0) (wholeWords (now (lift .entry))))) ⌝ }
+    ensures { λ r. ⌜ r ≡ answerNumber (λ s. chosen k (signatureLists s)) (packedAnswer (asyncStartAnswer (wholeWords (now (table .entry))) rows (sideAt «lower_memory» «lower_async») (wholeWords (now (lowered .entry))) (sideAt «lift_memory» 0) (wholeWords (now (lifted .entry))))) ⌝ }
 {
     let question = Question::AsyncStart(lower_memory, lower_async, lift_memory, k);
-    ask_bytes(question, table, rows, lower, lift)
+    ask_bytes(question, table, rows, lowered, lifted)
 }
 
 #[no_mangle]
@@ -75,14 +75,14 @@ pub extern "C" fn lampughjata_async_return_bytes(
     lower_async: u32,
     table: &[u8],
     rows: u32,
-    lift: &[u8],
-    lower: &[u8],
+    lifted: &[u8],
+    lowered: &[u8],
     k: u32,
 ) -> u64
-    ensures { λ r. ⌜ r ≡ answerNumber (λ s. chosen k (signatureLists s)) (packedAnswer (asyncReturnAnswer (wholeWords (now (table .entry))) rows (sideAt «lift_memory» «lift_async») (wholeWords (now (lift .entry))) (sideAt «lower_memory» «lower_async») (wholeWords (now (lower .entry))))) ⌝ }
+    ensures { λ r. ⌜ r ≡ answerNumber (λ s. chosen k (signatureLists s)) (packedAnswer (asyncReturnAnswer (wholeWords (now (table .entry))) rows (sideAt «lift_memory» «lift_async») (wholeWords (now (lifted .entry))) (sideAt «lower_memory» «lower_async») (wholeWords (now (lowered .entry))))) ⌝ }
 {
     let question = Question::AsyncReturn(lift_memory, lift_async, lower_memory, lower_async, k);
-    ask_bytes(question, table, rows, lift, lower)
+    ask_bytes(question, table, rows, lifted, lowered)
 }
 
 #[no_mangle]

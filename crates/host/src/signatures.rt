@@ -66,16 +66,16 @@ pub extern "C" fn lampughjata_async_start(
     lift_memory: u32,
     table: &[u32],
     rows: u32,
-    lower: &[u32],
-    lift: &[u32],
+    lowered: &[u32],
+    lifted: &[u32],
     k: u32,
 ) -> u64
-    ensures { λ r. ⌜ r ≡ answerNumber (λ s. chosen k (signatureLists s)) (packedAnswer (asyncStartAnswer (now (table .entry)) rows (sideAt «lower_memory» «lower_async») (now (lower .entry)) (sideAt «lift_memory» 0) (now (lift .entry)))) ⌝ }
+    ensures { λ r. ⌜ r ≡ answerNumber (λ s. chosen k (signatureLists s)) (packedAnswer (asyncStartAnswer (now (table .entry)) rows (sideAt «lower_memory» «lower_async») (now (lowered .entry)) (sideAt «lift_memory» 0) (now (lifted .entry)))) ⌝ }
 {
-    let lowered = side_at(lower_memory, lower_async);
+    let lower_side = side_at(lower_memory, lower_async);
     // Whether lift is async plays no part in a start: 0 says that it is not.
-    let lifted = side_at(lift_memory, 0);
-    let answer = async_start_signature(table, rows, lowered, lower, lifted, lift);
+    let lift_side = side_at(lift_memory, 0);
+    let answer = async_start_signature(table, rows, lower_side, lowered, lift_side, lifted);
     signature_number(answer, k)
 }
 
@@ -88,15 +88,15 @@ pub extern "C" fn lampughjata_async_return(
     lower_async: u32,
     table: &[u32],
     rows: u32,
-    lift: &[u32],
-    lower: &[u32],
+    lifted: &[u32],
+    lowered: &[u32],
     k: u32,
 ) -> u64
-    ensures { λ r. ⌜ r ≡ answerNumber (λ s. chosen k (signatureLists s)) (packedAnswer (asyncReturnAnswer (now (table .entry)) rows (sideAt «lift_memory» «lift_async») (now (lift .entry)) (sideAt «lower_memory» «lower_async») (now (lower .entry)))) ⌝ }
+    ensures { λ r. ⌜ r ≡ answerNumber (λ s. chosen k (signatureLists s)) (packedAnswer (asyncReturnAnswer (now (table .entry)) rows (sideAt «lift_memory» «lift_async») (now (lifted .entry)) (sideAt «lower_memory» «lower_async») (now (lowered .entry)))) ⌝ }
 {
-    let lifted = side_at(lift_memory, lift_async);
-    let lowered = side_at(lower_memory, lower_async);
-    let answer = async_return_signature(table, rows, lifted, lift, lowered, lower);
+    let lift_side = side_at(lift_memory, lift_async);
+    let lower_side = side_at(lower_memory, lower_async);
+    let answer = async_return_signature(table, rows, lift_side, lifted, lower_side, lowered);
     signature_number(answer, k)
 }
 

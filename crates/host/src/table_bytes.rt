@@ -7,13 +7,19 @@ ghost use Rattle.canon.specs.Question.{typeAnswer, sizeAlignAnswer, placementAn
 ghost use Rattle.words.specs.Words.{wholeWords, putWords};
 ghost use Rattle.host.specs.Numbers.{memoryAt, answerNumber, chosen, typeWords, layoutNumber, placementNumber};
 use crate::packing::refused;
+use crate::pick::PICKED_WORDS;
 use crate::pick::SHORT_LIST;
+use crate::pick::SLOTS;
+use crate::pick::TABLE_BYTES;
 use crate::pick::no_rows;
 use crate::pick::pick_row;
 use crate::pick::pick_rows;
 use crate::tables::lampughjata_placement;
 use crate::tables::lampughjata_size_align;
 use crate::tables::lampughjata_type;
+use questions::MOST_REFERENCES;
+use table::ROW_WORDS;
+use table::TABLE_WORDS;
 use types::Refusal;
 use words::put_words;
 use words::words_of;
@@ -25,7 +31,7 @@ pub extern "C" fn lampughjata_type_bytes(table: &[u8], rows: u32, reference: u32
     if no_rows(table, rows) {
         return refused(Refusal::BadRow, 0);
     }
-    let mut picked = [0u32; 16];
+    let mut picked = [0u32; ROW_WORDS];
     let name = pick_row(table, rows, reference, &mut picked, 0);
     lampughjata_type(&picked, 1, name, k)
 }
@@ -42,7 +48,7 @@ pub extern "C" fn lampughjata_size_align_bytes(
     if no_rows(table, rows) {
         return refused(Refusal::BadRow, 0);
     }
-    let mut picked = [0u32; 16];
+    let mut picked = [0u32; ROW_WORDS];
     let name = pick_row(table, rows, reference, &mut picked, 0);
     lampughjata_size_align(memory, &picked, 1, name)
 }
@@ -65,15 +71,15 @@ fn place_into(
 }
 
 // No offset stands beyond the word 16,384 of a buffer.
-fn place_long(memory: u32, table: &[u8], rows: u32, references: &[u8], offsets: &mut [u8]) -> u64
+fn place_whole(memory: u32, table: &[u8], rows: u32, references: &[u8], offsets: &mut [u8]) -> u64
     ensures { λ r. ⌜ r ≡ answerNumber placementNumber (placementAnswer (memoryAt memory) (wholeWords (now (table .entry))) rows (wholeWords (now (references .entry))) (length (wholeWords (now (offsets .entry))))) ⌝ }
     ensures { λ _. ⌜ now (offsets .exit) ≡ putWords 0 (offsetsAfter (memoryAt memory) (wholeWords (now (table .entry))) rows (wholeWords (now (references .entry))) (wholeWords (now (offsets .entry)))) (now (offsets .entry)) ⌝ }
 {
-    let mut ts = [0u32; 16384];
+    let mut ts = [0u32; TABLE_WORDS];
     let room = words_of(table, &mut ts);
-    let mut rs = [0u32; 16385];
+    let mut rs = [0u32; MOST_REFERENCES + 1];
     let count = words_of(references, &mut rs);
-    let mut os = [0u32; 16384];
+    let mut os = [0u32; MOST_REFERENCES];
     let length = words_of(offsets, &mut os);
     place_into(
         memory,
@@ -85,8 +91,8 @@ fn place_long(memory: u32, table: &[u8], rows: u32, references: &[u8], offsets: 
     )
 }
 
-// There are as many offsets as references, so that no more of the buffer is read and put back.
-fn place_short(memory: u32, table: &[u8], rows: u32, references: &[u8], offsets: &mut [u8]) -> u64
+// No offset stands beyond the word 16 of a buffer.
+fn place_picked(memory: u32, table: &[u8], rows: u32, references: &[u8], offsets: &mut [u8]) -> u64
     requires { ⌜ length (now references) / 4 ≤ 16 ⌝ }
     ensures { λ r. ⌜ r ≡ answerNumber placementNumber (placementAnswer (memoryAt memory) (wholeWords (now (table .entry))) rows (wholeWords (now (references .entry))) (length (wholeWords (now (offsets .entry))))) ⌝ }
     ensures { λ _. ⌜ now (offsets .exit) ≡ putWords 0 (offsetsAfter (memoryAt memory) (wholeWords (now (table .entry))) rows (wholeWords (now (references .entry))) (wholeWords (now (offsets .entry)))) (now (offsets .entry)) ⌝ }
@@ -94,15 +100,15 @@ fn place_short(memory: u32, table: &[u8], rows: u32, references: &[u8], offsets:
     if no_rows(table, rows) {
         return refused(Refusal::BadRow, 0);
     }
-    let mut picked = [0u32; 256];
-    let mut rs = [0u32; 16];
+    let mut picked = [0u32; PICKED_WORDS];
+    let mut rs = [0u32; SHORT_LIST];
     let count = pick_rows(table, rows, references, &mut picked, 0, &mut rs);
-    let mut os = [0u32; 16];
+    let mut os = [0u32; SHORT_LIST];
     let length = words_of(offsets, &mut os);
     place_into(
         memory,
         &picked,
-        16,
+        SLOTS,
         &rs[..count],
         &mut os[..length],
         offsets,
@@ -121,11 +127,17 @@ pub extern "C" fn lampughjata_placement_bytes(
     ensures { λ r. ⌜ r ≡ answerNumber placementNumber (placementAnswer (memoryAt memory) (wholeWords (now (table .entry))) rows (wholeWords (now (references .entry))) (length (wholeWords (now (offsets .entry))))) ⌝ }
     ensures { λ _. ⌜ now (offsets .exit) ≡ putWords 0 (offsetsAfter (memoryAt memory) (wholeWords (now (table .entry))) rows (wholeWords (now (references .entry))) (wholeWords (now (offsets .entry)))) (now (offsets .entry)) ⌝ }
 {
-    if table.len() > 65536 {
-        return lampughjata_placement_bytes(memory, &table[..65536], rows, references, offsets);
+    if table.len() > TABLE_BYTES {
+        return lampughjata_placement_bytes(
+            memory,
+            &table[..TABLE_BYTES],
+            rows,
+            references,
+            offsets,
+        );
     }
     if references.len() / 4 > SHORT_LIST {
-        return place_long(memory, table, rows, references, offsets);
+        return place_whole(memory, table, rows, references, offsets);
     }
-    place_short(memory, table, rows, references, offsets)
+    place_picked(memory, table, rows, references, offsets)
 }

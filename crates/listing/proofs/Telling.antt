@@ -9,6 +9,7 @@ use native.Mathlib.Omega.{arith}
 use borrow.Author.Tests.{lt-ltb, le-ltb, eq-eqb, ne-eqb}
 use lib.ListN.{length, getD, take, drop, length-map}
 use lib.Seq.{take-suc, take-all, length-take-le}
+use Rattle.build.specs.Means.{accepted}
 use Rattle.canon.specs.Answer.{Answer, refused}
 use Rattle.canon.specs.Description.{build, answered, built, buildAnswer, tableAfter}
 use Rattle.canon.specs.Row.{rowOf}
@@ -21,7 +22,7 @@ use Rattle.table.proofs.Reading.{row-there}
 use Rattle.words.specs.Words.{wholeWords}
 use Rattle.words.proofs.Laws.{length-whole, front-read}
 use Rattle.listing.specs.Text.{rowLine, rowLines, endLine, told, described, printed, mostBytes, shown}
-use Rattle.listing.specs.Told.{tableLines, rowsOf}
+use Rattle.listing.specs.Told.{tableLines}
 
 lines-snoc : (i : ℕ) (rs : List (List ℕ)) (r : List ℕ) → rowLines i rs ++ rowLine (i + length rs) r ≡ rowLines i (rs ++ r ∷ [])
 unfolding rowLines
@@ -62,18 +63,18 @@ module _ (ws t : List ℕ) where
       ∙ row-at room (length t) (map rowOf types) t j (room-fits (length t) .1) (every-sixteen types) (omega (arith, length-map types rowOf, s .fits)) refl
       (omega (arith, length-map types rowOf))
 
-  rows-answered : rowsOf (buildAnswer ws t) ≡ length types
+  rows-answered : accepted (buildAnswer ws t) ≡ length types
   unfolding buildAnswer
   rows-answered = go (built ws t .stopped)
     where
-      go : (s : Option ℕ) → rowsOf (answered (length types) s) ≡ length types
+      go : (s : Option ℕ) → accepted (answered (length types) s) ≡ length types
       go none = refl
       go (some x) = refl
 
-  pub few-rows : {a : Answer ℕ} → a ≡ buildAnswer ws t → rowsOf a ≤ 1024
+  pub few-rows : {a : Answer ℕ} → a ≡ buildAnswer ws t → accepted a ≤ 1024
   few-rows e = rw e (omega (arith, rows-answered, built-sound ws t .fits, room-fits (length t) .0))
 
-  lines-told : tableLines (tableAfter ws t) (rowsOf (buildAnswer ws t)) ≡ rowLines 0 (map rowOf types)
+  lines-told : tableLines (tableAfter ws t) (accepted (buildAnswer ws t)) ≡ rowLines 0 (map rowOf types)
   lines-told =
       let n : length (map rowOf types) ≡ length types = length-map types rowOf in
       rw rows-answered
@@ -82,7 +83,7 @@ module _ (ws t : List ℕ) where
 
   -- the lines of a table of 16,384 words after a build, and that of its answer
   pub description-told :
-      {a : Answer ℕ} {u : List ℕ} {n : ℕ} → a ≡ buildAnswer ws t → u ≡ tableAfter ws t → n ≡ rowsOf a → length t ≡ 16384 →
+      {a : Answer ℕ} {u : List ℕ} {n : ℕ} → a ≡ buildAnswer ws t → u ≡ tableAfter ws t → n ≡ accepted a → length t ≡ 16384 →
       tableLines u n ++ endLine a ≡ described ws
   unfolding described buildAnswer capacity
   description-told d e f l = rw (f, e, d, lines-told) (ap (λ (n : ℕ). told (build (capacity n) ws)) l)
@@ -94,17 +95,17 @@ module _ (b : List ℕ) where
   unfolding printed
   printed-long h = rw (lt-ltb 65536 (length b) h)
 
-  pub printed-odd : length b ≤ 65536 → (length b % 4 ≡ 0 → ⊥) → endLine (refused 2 0) ≡ printed b
+  pub printed-odd : length b ≤ 65536 → 0 < length b % 4 → endLine (refused 2 0) ≡ printed b
   unfolding printed
-  printed-odd h z = rw (le-ltb 65536 (length b) h, ne-eqb (length b % 4) 0 z)
+  printed-odd h z = rw (le-ltb 65536 (length b) h, ne-eqb (length b % 4) 0 (λ e. omega arith))
 
   pub printed-words :
-      (w u : List ℕ) (n : ℕ) → length w ≡ 16384 → length b ≤ 65536 → length b % 4 ≡ 0 →
+      (w u : List ℕ) (n : ℕ) → length w ≡ 16384 → length b ≤ 65536 → length b % 4 ≤ 0 →
       n ≡ min (length b / 4) (length w) → u ≡ take n (wholeWords b) ++ drop n w →
       described (take n u) ≡ printed b
   unfolding printed
   printed-words w u n l h z e f =
-      rw (le-ltb 65536 (length b) h, eq-eqb (length b % 4) 0 z) (ap described (front-read b w u n e f ∙ take-all (length w) (wholeWords b) (omega (arith, length-whole b))))
+      rw (le-ltb 65536 (length b) h, eq-eqb (length b % 4) 0 (omega arith)) (ap described (front-read b w u n e f ∙ take-all (length w) (wholeWords b) (omega (arith, length-whole b))))
 
   pub shown-none : (room : ℕ) → room < mostBytes → [] ≡ shown room b
   unfolding shown

@@ -3,7 +3,6 @@ use mathlib.Core.List.{List, [], _++_}
 use mathlib.Core.Path.{_≡_}
 use Prim.Native.Nat.{ℕ, zero, suc, _+_, _≤_}
 use lib.ListN.{length}
-use Rattle.canon.specs.Answer.{Answer, ok, refused}
 use Rattle.table.specs.Rows.{rowIn}
 use Rattle.listing.specs.Text.{rowLine, written}
 
@@ -17,8 +16,3 @@ pub record Puts (out : List ℕ) (at : ℕ) (text : List ℕ) (most r : ℕ) (af
 unfoldable pub tableLines : List ℕ → ℕ → List ℕ
 tableLines t zero = []
 tableLines t (suc n) = tableLines t n ++ rowLine n (rowIn t n)
-
--- how many rows a build has made
-abbrev pub rowsOf : Answer ℕ → ℕ
-rowsOf (ok n) = n
-rowsOf (refused x i) = i

@@ -3,4 +3,6 @@ mod lines;
 mod numbers;
 mod program;
 
+pub use program::INPUT_BYTES;
+pub use program::MOST_BYTES;
 pub use program::report;

@@ -7,6 +7,7 @@ ghost use Rattle.canon.specs.Answer.{ok, refused};
 ghost use Rattle.table.specs.Rows.{rowIn};
 ghost use Rattle.listing.specs.Text.{spacedAll, flatText, rowNumbers, rowLine, endLine};
 ghost use Rattle.listing.specs.Told.{Puts, tableLines};
+use crate::numbers::MOST_DIGITS;
 use crate::numbers::put_byte;
 use crate::numbers::put_bytes;
 use crate::numbers::put_digits;
@@ -15,6 +16,13 @@ use build::Built;
 use table::DefinitionIndex;
 use table::row_info;
 use table::row_kind;
+use types::NO_FLAT_COUNT;
+
+// A row's line has seven numbers, each with a byte after it.
+pub(crate) const LINE_BYTES: usize = 7 * (MOST_DIGITS + 1);
+
+// The line of a refusal is the longest of an answer: eight bytes for its name, then two numbers.
+pub(crate) const ANSWER_BYTES: usize = 8 + 2 * (MOST_DIGITS + 1);
 
 fn put_all_spaced(out: &mut [u8], at: usize, numbers: [u32; 6]) -> usize
     requires { ⌜ at + 66 ≤ length (now out) ⌝ }
@@ -33,10 +41,10 @@ fn put_flat(out: &mut [u8], at: usize, count: u32) -> usize
     requires { ⌜ at + 10 ≤ length (now out) ⌝ }
     ensures { λ r. ⌜ Puts (now (out .entry)) at (flatText count) 10 r (now (out .exit)) ⌝ }
 {
-    if count == 255 {
+    if count == NO_FLAT_COUNT {
         put_byte(out, at, b'-')
     } else {
-        put_digits(out, at, count, 10)
+        put_digits(out, at, count, MOST_DIGITS)
     }
 }
 
@@ -83,7 +91,7 @@ fn put_ok(out: &mut [u8], at: usize, count: u32) -> usize
     ensures { λ r. ⌜ Puts (now (out .entry)) at (endLine (ok count)) 30 r (now (out .exit)) ⌝ }
 {
     let number = put_bytes(out, at, &[b'o', b'k', b' ']);
-    let end = put_digits(out, number, count, 10);
+    let end = put_digits(out, number, count, MOST_DIGITS);
     put_byte(out, end, b'\n')
 }
 
@@ -93,7 +101,7 @@ pub(crate) fn put_refused(out: &mut [u8], at: usize, number: u32, index: u32) ->
 {
     let first = put_bytes(out, at, &[b'r', b'e', b'f', b'u', b's', b'e', b'd', b' ']);
     let second = put_spaced(out, first, number);
-    let end = put_digits(out, second, index, 10);
+    let end = put_digits(out, second, index, MOST_DIGITS);
     put_byte(out, end, b'\n')
 }
 

@@ -6,6 +6,9 @@ ghost use lib.ListN.{length};
 ghost use Rattle.listing.specs.Text.{digits, spaced};
 ghost use Rattle.listing.specs.Told.{Puts};
 
+// A word has no more decimal digits.
+pub(crate) const MOST_DIGITS: usize = 10;
+
 fn digit(x: u32) -> u8
     requires { ⌜ x ≤ 9 ⌝ }
     ensures { λ r. ⌜ r ≡ 48 + x ⌝ }
@@ -55,6 +58,6 @@ pub(crate) fn put_spaced(out: &mut [u8], at: usize, n: u32) -> usize
     requires { ⌜ at + 11 ≤ length (now out) ⌝ }
     ensures { λ r. ⌜ Puts (now (out .entry)) at (spaced n) 11 r (now (out .exit)) ⌝ }
 {
-    let end = put_digits(out, at, n, 10);
+    let end = put_digits(out, at, n, MOST_DIGITS);
     put_byte(out, end, b' ')
 }

@@ -1,37 +1,35 @@
 // Says what is printed for which bytes.
 ghost use mathlib.Core.Path.{_≡_};
 ghost use Prim.Native.Nat.{_≤_};
-ghost use Rattle.build.specs.Means.{builtMeans};
 ghost use lib.ListN.{length};
-ghost use Rattle.listing.specs.Told.{Puts, rowsOf};
+ghost use Rattle.listing.specs.Told.{Puts};
 ghost use Rattle.listing.specs.Text.{described, printed, mostBytes, shown, written};
+use crate::lines::ANSWER_BYTES;
+use crate::lines::LINE_BYTES;
 use crate::lines::put_answer;
 use crate::lines::put_refused;
 use crate::lines::put_rows;
-use build::Built;
+use build::MAX_BYTES;
+use build::MAX_WORDS;
 use build::build;
+use table::MOST_ROWS;
+use table::TABLE_WORDS;
 use types::Refusal;
 use words::words_of;
 
-// A line has at most 77 bytes, the last one at most 30.
-const MOST_BYTES: usize = 78878;
+// The longest text is a line for each row, then the answer's.
+pub const MOST_BYTES: usize = MOST_ROWS * LINE_BYTES + ANSWER_BYTES;
 
-fn rows_of(built: Built) -> u32
-    ensures { λ r. ⌜ r ≡ rowsOf (builtMeans built) ⌝ }
-{
-    match built {
-        Built::Rows(count) => count,
-        Built::Refused(_, index) => index.0,
-    }
-}
+// One byte more than a description may have shows that it is too long.
+pub const INPUT_BYTES: usize = MAX_BYTES + 1;
 
 fn describe(words: &[u32], out: &mut [u8]) -> usize
     requires { ⌜ mostBytes ≤ length (now out) ⌝ }
     ensures { λ r. ⌜ Puts (now (out .entry)) 0 (described (now (words .entry))) mostBytes r (now (out .exit)) ⌝ }
 {
-    let mut table = [0u32; 16384];
+    let mut table = [0u32; TABLE_WORDS];
     let built = build(words, &mut table);
-    let at = put_rows(out, &table, rows_of(built));
+    let at = put_rows(out, &table, built.accepted());
     put_answer(out, at, built)
 }
 
@@ -39,13 +37,13 @@ fn print(bytes: &[u8], out: &mut [u8]) -> usize
     requires { ⌜ mostBytes ≤ length (now out) ⌝ }
     ensures { λ r. ⌜ Puts (now (out .entry)) 0 (printed (now (bytes .entry))) mostBytes r (now (out .exit)) ⌝ }
 {
-    if 65536 < bytes.len() {
+    if bytes.len() > MAX_BYTES {
         return put_refused(out, 0, Refusal::TooLong.number(), 0);
     }
-    if bytes.len() % 4 != 0 {
+    if bytes.len() % 4 > 0 {
         return put_refused(out, 0, Refusal::Truncated.number(), 0);
     }
-    let mut words = [0u32; 16384];
+    let mut words = [0u32; MAX_WORDS];
     let count = words_of(bytes, &mut words);
     describe(&words[..count], out)
 }

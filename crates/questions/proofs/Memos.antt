@@ -10,7 +10,7 @@ use lib.Dec.{leb, ltb, eqb}
 use lib.ListN.{length, getD, getElem?, take, drop, set, replicate}
 use lib.Seq.{getD-set-same, getD-set-other, drop-cons, set-at}
 use borrow.Author.Tests.{ltb-true, ltb-false, leb-false, eqb-true, eqb-false}
-use Rattle.canon.specs.Answer.{Leaf, is, no, Answer, ok, refused, atPosition, then, andThen, unless, badRef}
+use Rattle.canon.specs.Answer.{Leaf, is, no, Answer, ok, refused, atPosition, then, andThen, unless, badRef, badRow}
 use Rattle.canon.specs.Layout.{Memory, Layout}
 use Rattle.canon.specs.Row.{Info, infoLayout}
 use Rattle.canon.specs.Types.{plain}
@@ -37,14 +37,16 @@ by-same {A} v w y n = go (eqb v w) refl
 pub memo-back : (f : Layout) → f .size < fourGiB → memoLayout (f .align * fourGiB + f .size) ≡ f
 memo-back f h = rw (digits-mod (f .align) h, digits-div (f .align) h)
 
--- What a reference gives in this memory, once the table is there
-size-align-is : (m : Memory) (t : List ℕ) (n w : ℕ) → noTable t n ≡ false → sizeAlignAnswer m t n w ≡ atPosition 0 (memberLayout m t n w)
+-- What a reference gives in this memory, after the test of the table
+pub size-align-is : (m : Memory) (t : List ℕ) (n w : ℕ) → sizeAlignAnswer m t n w ≡ unless (noTable t n) badRow (atPosition 0 (memberLayout m t n w))
 unfolding sizeAlignAnswer typeAnswer unless then atPosition andThen
-size-align-is m t n w e = rw e (go (read t n w))
+size-align-is m t n w = go (noTable t n) (read t n w)
   where
-    go : (l : Leaf Info) → then (atPosition 0 l) (λ i. ok (infoLayout m i)) ≡ atPosition 0 (andThen l (λ i. is (infoLayout m i)))
-    go (is i) = refl
-    go (no x) = refl
+    go : (b : Bool) (l : Leaf Info) →
+        then (unless b badRow (atPosition 0 l)) (λ i. ok (infoLayout m i)) ≡ unless b badRow (atPosition 0 (andThen l (λ i. is (infoLayout m i))))
+    go true l = refl
+    go false (is i) = refl
+    go false (no x) = refl
 
 at-is : {A : Type 0} (l : Leaf A) (a : A) → ok a ≡ atPosition 0 l → l ≡ is a
 unfolding atPosition
@@ -73,14 +75,18 @@ read-below t n w i e h = go (leb 64 w) (ltb (w - 64) n) refl refl h
 
 -- a layout that is answered is the reference's, which has its place in the memo, and its alignment is not 0
 module _ (m : Memory) (t : List ℕ) (n w : ℕ) (there : noTable t n ≡ false) where
+  given : sizeAlignAnswer m t n w ≡ atPosition 0 (memberLayout m t n w)
+  unfolding unless
+  given = size-align-is m t n w ∙ ap (λ b. unless b badRow (atPosition 0 (memberLayout m t n w))) there
+
   pub gives-layout : (f : Layout) → ok f ≡ sizeAlignAnswer m t n w → (memberLayout m t n w ≡ is f) × (w < 1088) × (0 < f .align)
   gives-layout f h =
-      let g = at-is (memberLayout m t n w) f (h ∙ size-align-is m t n w there) in
+      let g = at-is (memberLayout m t n w) f (h ∙ given) in
       let r = part-is (infoLayout m) (read t n w) f (sym g) in
       (g, read-below t n w (r .0) there (r .1), rw (r .2) at (alignment-pos (read-aligned m t n w (r .0) (r .1))))
 
   pub gives-none : (x p : ℕ) → refused x p ≡ sizeAlignAnswer m t n w → memberLayout m t n w ≡ no x
-  gives-none x p h = at-no (memberLayout m t n w) x p (h ∙ size-align-is m t n w there)
+  gives-none x p h = at-no (memberLayout m t n w) x p (h ∙ given)
 
 module _ (look : ℕ → Leaf Layout) (w : ℕ) (memo : List ℕ) (remembers : Remembers look memo) where
   -- it is there

@@ -38,7 +38,7 @@ use Rattle.questions.specs.declared.list.Gathered.{Gathered}
 use Rattle.types.proofs.Told.{told}
 use Rattle.questions.proofs.Unique.{layoutAnswerOf, layout-back}
 use Rattle.questions.proofs.ask.canonical_abi.Reads as canonical-abi
-use Rattle.questions.proofs.ask.size_align.Reads as size-align
+use Rattle.questions.proofs.member.size_align.Reads as size-align
 use Rattle.questions.proofs.list.gather.Reads as gather
 use Rattle.questions.proofs.placing.placement.Reads as placement
 

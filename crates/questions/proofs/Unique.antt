@@ -28,7 +28,7 @@ use Rattle.questions.specs.declared.two.GatheredTwo.the-variants as two
 use Rattle.questions.proofs.read.too_many.Reads as too-many
 use Rattle.questions.proofs.read.no_table.Reads as no-table
 use Rattle.questions.proofs.ask.canonical_abi.Reads as canonical-abi
-use Rattle.questions.proofs.ask.size_align.Reads as size-align
+use Rattle.questions.proofs.member.size_align.Reads as size-align
 use Rattle.questions.proofs.list.gather.Reads as gather
 use Rattle.questions.proofs.two.gather_two.Reads as gather-two
 use Rattle.questions.proofs.placing.placement.Reads as placement

@@ -7,14 +7,14 @@ use Prim.Native.Nat.{ℕ, _≤_}
 use native.Mathlib.Omega.{arith}
 use lib.Dec.{leb, eqb}
 use borrow.Author.Tests.{leb-true, eqb-true, le-leb}
-use Rattle.canon.specs.Answer.{Leaf, is, no, ok, atPosition, unless, badRow}
+use Rattle.canon.specs.Answer.{is}
 use Rattle.canon.specs.Types.{Ty}
 use Rattle.canon.specs.Layout.{Memory, mem32, mem64, within}
 use Rattle.canon.specs.Flat.{flatten, flatCount}
 use Rattle.canon.specs.Pack.{Packed}
 use Rattle.canon.specs.Reach.{reachWord, wordReach, goodReach}
 use Rattle.canon.specs.Row.{Info, infoOf, typeFlat, rowInfo, rowAbi, word, countOf, countWord, goodLayout, goodCount, unusedZero, goodAbi, isDiscriminant, isGood, flatOf}
-use Rattle.canon.specs.Question.{read, noTable, typeAnswer, reachAll}
+use Rattle.canon.specs.Question.{read, reachAll}
 use Rattle.canon.proofs.Tests.{impossible, both-true}
 use Rattle.canon.proofs.Counts.{counted}
 use Rattle.canon.proofs.Rows.{countWord-countOf, flat-back}
@@ -55,17 +55,8 @@ unfolding goodCount
 typed-good none h = refl
 typed-good (some n) h = le-leb n 16 (h n refl)
 
-read-counted : (t : List ℕ) (n w : ℕ) (i : Info) → read t n w ≡ is i → goodCount (i .abi .flats) ≡ true
+pub read-counted : (t : List ℕ) (n w : ℕ) (i : Info) → read t n w ≡ is i → goodCount (i .abi .flats) ≡ true
 read-counted = read-has (λ i. goodCount (i .abi .flats) ≡ true) (λ t. typed-good (flatCount t) (λ n e. counted mem32 t n .0 e .1)) row-counted
-
-pub type-counted : (t : List ℕ) (n w : ℕ) (i : Info) → typeAnswer t n w ≡ ok i → goodCount (i .abi .flats) ≡ true
-unfolding typeAnswer unless atPosition
-type-counted t n w i h = go (noTable t n) (read t n w) refl h
-  where
-    go : (b : Bool) (l : Leaf Info) → read t n w ≡ l → unless b badRow (atPosition 0 l) ≡ ok i → goodCount (i .abi .flats) ≡ true
-    go true l f e = impossible (cc)
-    go false (no x) f e = impossible (cc)
-    go false (is j) f e = let p : j ≡ i = cc in read-counted t n w i (f ∙ ap is p)
 
 -- a good count is a byte
 pub counted-byte : (c : ℕ) → goodCount (countOf c) ≡ true → c ≤ 255

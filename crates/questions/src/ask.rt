@@ -1,14 +1,12 @@
-// Answers the questions on one reference.
+// Answers the type question.
 ghost use mathlib.Core.Path.{_≡_};
 ghost use mathlib.Core.Bool.{false};
 ghost use Prim.Native.Nat.{_≤_};
-ghost use Rattle.canon.specs.Answer.{atPosition};
 ghost use Rattle.canon.specs.Row.{countOf};
-ghost use Rattle.canon.specs.Question.{read, noTable, typeAnswer, sizeAlignAnswer};
-ghost use Rattle.types.specs.Means.{memoryOf, countMeans};
+ghost use Rattle.canon.specs.Question.{read, noTable, typeAnswer};
+ghost use Rattle.types.specs.Means.{countMeans};
 ghost use Rattle.table.specs.Means.{infoMeans};
-ghost use Rattle.questions.specs.Means.{readingMeans, typeInfoMeans, typeMeans, layoutAnswerMeans};
-use crate::answer::LayoutAnswer;
+ghost use Rattle.questions.specs.Means.{readingMeans, typeInfoMeans, typeMeans};
 use crate::answer::TypeAnswer;
 use crate::answer::TypeInfo;
 use crate::read::Named;
@@ -22,7 +20,7 @@ use table::plain_info;
 use table::row_info;
 use types::CanonicalAbiInfo;
 use types::FlatCount;
-use types::Memory;
+use types::NO_FLAT_COUNT;
 use types::Refusal;
 
 enum Reading {
@@ -46,22 +44,12 @@ fn read(table: &[u32], n: u32, reference: u32) -> Reading
     }
 }
 
-// Tests the table before the reference is read.
-fn read_one(table: &[u32], n: u32, reference: u32) -> Reading
-    ensures { λ r. ⌜ atPosition 0 (readingMeans r) ≡ typeAnswer (now (table .entry)) n reference ⌝ }
-{
-    if no_table(table, n) {
-        return Reading::Refused(Refusal::BadRow);
-    }
-    read(table, n, reference)
-}
-
 // A row's flat count: 255 is none.
 fn flat_count(count: u32) -> FlatCount
     requires { ⌜ count ≤ 255 ⌝ }
     ensures { λ r. ⌜ countMeans r ≡ countOf count ⌝ }
 {
-    if count == 255 {
+    if count == NO_FLAT_COUNT {
         FlatCount::None
     } else {
         FlatCount::Count(count as u8)
@@ -89,25 +77,15 @@ fn type_info(info: Info) -> TypeInfo
     }
 }
 
-// Answers the type question. Refuses BadRow for the table, then BadRef for the reference, then BadRow for its row.
+// Refuses BadRow for the table, then BadRef for the reference, then BadRow for its row.
 pub fn canonical_abi(table: &[u32], n: u32, reference: u32) -> TypeAnswer
     ensures { λ r. ⌜ typeMeans r ≡ typeAnswer (now (table .entry)) n reference ⌝ }
 {
-    match read_one(table, n, reference) {
+    if no_table(table, n) {
+        return TypeAnswer::Refused(Refusal::BadRow, MemberPosition(0));
+    }
+    match read(table, n, reference) {
         Reading::Info(info) => TypeAnswer::Info(type_info(info)),
         Reading::Refused(why) => TypeAnswer::Refused(why, MemberPosition(0)),
-    }
-}
-
-// Answers size and alignment in one memory. Refuses BadRow for the table, then BadRef for the reference, then BadRow for its row.
-pub fn size_align(memory: Memory, table: &[u32], n: u32, reference: u32) -> LayoutAnswer
-    ensures { λ r. ⌜ layoutAnswerMeans r ≡ sizeAlignAnswer (memoryOf memory) (now (table .entry)) n reference ⌝ }
-{
-    match read_one(table, n, reference) {
-        Reading::Info(info) => {
-            let layouts = info.layouts;
-            LayoutAnswer::Layout(layouts.in_memory(memory))
-        }
-        Reading::Refused(why) => LayoutAnswer::Refused(why, MemberPosition(0)),
     }
 }

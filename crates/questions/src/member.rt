@@ -1,21 +1,25 @@
-// Reads the layout of a placement's member in one memory, off the table or out of a memo of what was read before.
+// Reads the layout of one reference in one memory, off the table or out of a memo of what was read before.
 ghost use mathlib.Core.Path.{_≡_};
 ghost use mathlib.Core.Bool.{false};
 ghost use Prim.Native.Nat.{_+_, _*_, _<_};
-ghost use lib.ListN.{length};
-ghost use Rattle.canon.specs.Question.{noTable};
+ghost use lib.ListN.{length, getElem?};
+ghost use Rattle.canon.specs.Question.{noTable, plainInfo, sizeAlignAnswer};
+ghost use Rattle.canon.specs.Row.{infoLayout};
+ghost use Rattle.canon.specs.Types.{plain};
 ghost use Rattle.types.specs.Means.{memoryOf, layoutMeans};
 ghost use Rattle.canon.specs.Placement.{fourGiB};
-ghost use Rattle.questions.specs.Means.{memberMeans};
-ghost use Rattle.questions.specs.Steps.{memberLayout, memoLayout, Remembers, Recalled};
+ghost use Rattle.questions.specs.Means.{memberMeans, layoutAnswerMeans};
+ghost use Rattle.questions.specs.Steps.{part, memberLayout, memoLayout, Remembers, Recalled};
 use crate::answer::LayoutAnswer;
-use crate::ask::size_align;
 use crate::read::Named;
+use crate::read::no_table;
 use crate::read::row_named;
 use table::FIRST_DEFINITION;
 use table::Found;
+use table::MemberPosition;
 use table::plain_info;
 use table::row_layout;
+use types::FOUR_GIB;
 use types::Layout;
 use types::Memory;
 use types::Refusal;
@@ -25,24 +29,48 @@ pub(crate) enum Member {
     Refused(Refusal),
 }
 
-const FOUR_GIB: u64 = 4294967296;
+fn plain_member(memory: Memory, reference: u32) -> Member
+    ensures { λ r. ⌜ memberMeans r ≡ part (infoLayout (memoryOf memory)) (plainInfo (getElem? plain reference)) ⌝ }
+{
+    match plain_info(reference) {
+        Found::Info(info) => {
+            let layouts = info.layouts;
+            Member::Layout(layouts.in_memory(memory))
+        }
+        Found::BadRef => Member::Refused(Refusal::BadRef),
+    }
+}
 
 pub(crate) fn read_member(memory: Memory, table: &[u32], n: u32, reference: u32) -> Member
     requires { ⌜ noTable (now table) n ≡ false ⌝ }
     ensures { λ r. ⌜ memberMeans r ≡ memberLayout (memoryOf memory) (now (table .entry)) n reference ⌝ }
 {
     if reference < FIRST_DEFINITION {
-        return match plain_info(reference) {
-            Found::Info(info) => {
-                let layouts = info.layouts;
-                Member::Layout(layouts.in_memory(memory))
-            }
-            Found::BadRef => Member::Refused(Refusal::BadRef),
-        };
+        return plain_member(memory, reference);
     }
     match row_named(table, n, reference) {
         Named::Row(index) => Member::Layout(row_layout(table, index, memory)),
         Named::Refused(why) => Member::Refused(why),
+    }
+}
+
+// Answers size and alignment in one memory. Refuses BadRow for the table, then BadRef for the reference, then BadRow for its row.
+// Reads the row itself: a second caller would take read_member out of the placement's loop.
+pub fn size_align(memory: Memory, table: &[u32], n: u32, reference: u32) -> LayoutAnswer
+    ensures { λ r. ⌜ layoutAnswerMeans r ≡ sizeAlignAnswer (memoryOf memory) (now (table .entry)) n reference ⌝ }
+{
+    if no_table(table, n) {
+        return LayoutAnswer::Refused(Refusal::BadRow, MemberPosition(0));
+    }
+    if reference < FIRST_DEFINITION {
+        return match plain_member(memory, reference) {
+            Member::Layout(layout) => LayoutAnswer::Layout(layout),
+            Member::Refused(why) => LayoutAnswer::Refused(why, MemberPosition(0)),
+        };
+    }
+    match row_named(table, n, reference) {
+        Named::Row(index) => LayoutAnswer::Layout(row_layout(table, index, memory)),
+        Named::Refused(why) => LayoutAnswer::Refused(why, MemberPosition(0)),
     }
 }
 

@@ -6,10 +6,9 @@ ghost use Rattle.questions.specs.Steps.{nextPlace, finished};
 use crate::answer::LayoutAnswer;
 use table::MemberPosition;
 use types::Extent;
+use types::FOUR_GIB;
 use types::Layout;
 use types::Refusal;
-
-const FOUR_GIB: u64 = 4294967296;
 
 // Holds the extent of the members so far, where the last of them starts, and the last that begins before the extent is too large: where it
 // is, the one that passed.
@@ -21,7 +20,7 @@ pub(crate) struct Placed {
 
 impl Placed {
     pub(crate) const NONE: Placed = Placed {
-        extent: Extent { end: 0, align: 1 },
+        extent: Extent::EMPTY,
         offset: 0,
         over: MemberPosition(0),
     };

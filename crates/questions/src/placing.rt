@@ -122,7 +122,15 @@ fn write(references: &[u32], memo: &[u64], out: &mut [u32])
     }
 }
 
-// Each array has a function of its own. It is cleared first, which takes longer than a short list.
+// A list of at most so many references has a small array: an array is cleared first, and a large one takes longer than a short list.
+const SHORT: usize = 64;
+
+// More references than this are placed twice, over a memo.
+const STAGED: usize = 1024;
+
+// A memo has a word for each reference that a table can hold: 64, and one for each of 1,024 rows.
+const MEMO: usize = 1088;
+
 fn place_short(
     memory: Memory,
     table: &[u32],
@@ -133,7 +141,7 @@ fn place_short(
     requires { ⌜ (noTable (now table) n ≡ false) × (length (now references) ≤ 64) × (length (now references) ≤ length (now out)) ⌝ }
     ensures { λ r. ⌜ Places (memoryOf memory) (now (table .entry)) n (now (references .entry)) (now (out .entry)) r (now (out .exit)) ⌝ }
 {
-    let mut stage = [0u32; 64];
+    let mut stage = [0u32; SHORT];
     place_staged(memory, table, n, references, &mut stage, out)
 }
 
@@ -147,7 +155,7 @@ fn place_middle(
     requires { ⌜ (noTable (now table) n ≡ false) × (length (now references) ≤ 1024) × (length (now references) ≤ length (now out)) ⌝ }
     ensures { λ r. ⌜ Places (memoryOf memory) (now (table .entry)) n (now (references .entry)) (now (out .entry)) r (now (out .exit)) ⌝ }
 {
-    let mut stage = [0u32; 1024];
+    let mut stage = [0u32; STAGED];
     place_staged(memory, table, n, references, &mut stage, out)
 }
 
@@ -161,7 +169,7 @@ fn place_long(
     requires { ⌜ (noTable (now table) n ≡ false) × (length (now references) ≤ 16384) × (length (now references) ≤ length (now out)) ⌝ }
     ensures { λ r. ⌜ Places (memoryOf memory) (now (table .entry)) n (now (references .entry)) (now (out .entry)) r (now (out .exit)) ⌝ }
 {
-    let mut memo = [0u64; 1088];
+    let mut memo = [0u64; MEMO];
     match judge(memory, table, n, references, &mut memo) {
         LayoutAnswer::Layout(layout) => {
             write(references, &memo, out);
@@ -181,10 +189,10 @@ fn place_all(
     requires { ⌜ (noTable (now table) n ≡ false) × (length (now references) ≤ 16384) × (length (now references) ≤ length (now out)) ⌝ }
     ensures { λ r. ⌜ Places (memoryOf memory) (now (table .entry)) n (now (references .entry)) (now (out .entry)) r (now (out .exit)) ⌝ }
 {
-    if references.len() <= 64 {
+    if references.len() <= SHORT {
         return place_short(memory, table, n, references, out);
     }
-    if references.len() <= 1024 {
+    if references.len() <= STAGED {
         return place_middle(memory, table, n, references, out);
     }
     place_long(memory, table, n, references, out)

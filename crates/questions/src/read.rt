@@ -1,5 +1,5 @@
-// The tests before any reference is read, and the test of a reference to a definition. What is then read of a row is the question's own:
-// each reader has one caller, so that the compiler puts it there.
+// The tests before any reference is read, and the test of a reference to a definition. What is then read of a row is the question's own, and
+// what reads in a loop has one caller, so that the compiler puts it there.
 ghost use mathlib.Core.Path.{_≡_};
 ghost use mathlib.Core.Bool.{true, false};
 ghost use Prim.Native.Nat.{_≤_};
@@ -7,14 +7,13 @@ ghost use Rattle.canon.specs.Question.{read, tooMany, noTable};
 ghost use Rattle.questions.specs.Means.{namedMeans, namedGood};
 use table::DefinitionIndex;
 use table::FIRST_DEFINITION;
+use table::MOST_ROWS;
+use table::ROW_WORDS;
 use table::is_good_row;
 use types::Refusal;
 
-const MOST_REFERENCES: usize = 16384;
-
-const MOST_ROWS: u32 = 1024;
-
-const ROW_WORDS: usize = 16;
+// A list of references has at most so many.
+pub const MOST_REFERENCES: usize = 16384;
 
 pub(crate) enum Named {
     Row(DefinitionIndex),
@@ -31,7 +30,7 @@ pub fn too_many(references: &[u32]) -> bool
 pub fn no_table(table: &[u32], n: u32) -> bool
     ensures { λ r. ⌜ r ≡ noTable (now (table .entry)) n ⌝ }
 {
-    if n > MOST_ROWS {
+    if n as usize > MOST_ROWS {
         return true;
     }
     table.len() < ROW_WORDS * n as usize

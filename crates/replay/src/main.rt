@@ -6,9 +6,13 @@
 //   11 refused description: the number, the index, w, then words that are repeated until there are w
 // and every other kind, a question about the table before it, is passed over.
 use build::Built;
+use build::MAX_BYTES;
+use build::MAX_WORDS;
 use build::build;
 use libc::STDIN_FILENO;
 use libc::STDOUT_FILENO;
+use table::ROW_WORDS;
+use table::TABLE_WORDS;
 use words::words_of;
 
 enum Compared {
@@ -62,10 +66,10 @@ fn is_built(entry: &[u32]) -> bool {
     }
     let end = count + 1;
     let first = count + 2;
-    let mut table = [0u32; 16384];
+    let mut table = [0u32; TABLE_WORDS];
     match build(&entry[1..end], &mut table) {
         Built::Rows(rows) => {
-            if rows as usize * 16 == entry.len() - first {
+            if rows as usize * ROW_WORDS == entry.len() - first {
                 is_front(&entry[first..], &table)
             } else {
                 false
@@ -80,12 +84,12 @@ fn is_refused(entry: &[u32]) -> bool {
     if entry.len() < 3 {
         return false;
     }
-    let mut words = [0u32; 16385];
+    let mut words = [0u32; MAX_WORDS + 1];
     if words.len() < count {
         return false;
     }
     repeat(&entry[3..], &mut words);
-    let mut table = [0u32; 16384];
+    let mut table = [0u32; TABLE_WORDS];
     match build(&words[..count], &mut table) {
         Built::Rows(_) => false,
         Built::Refused(why, index) => {
@@ -114,8 +118,9 @@ fn compare(kind: u32, entry: &[u32]) -> Compared {
     }
 }
 
-// A list that is cut short ends with a difference.
+// A list that ends within an entry, or before or after as many as it tells, ends with a difference.
 fn replay(words: &[u32]) -> Tally {
+    let mut entries: usize = 0;
     let mut compared: usize = 0;
     let mut different: usize = 0;
     let mut at: usize = 2;
@@ -128,6 +133,7 @@ fn replay(words: &[u32]) -> Tally {
                 different: different + 1,
             };
         }
+        entries += 1;
         let first = at + 2;
         let end = first + size;
         match compare(words[at], &words[first..end]) {
@@ -140,6 +146,12 @@ fn replay(words: &[u32]) -> Tally {
         }
         at = end;
     }
+    if entries != word(words, 1) as usize {
+        return Tally {
+            compared: compared,
+            different: different + 1,
+        };
+    }
     Tally {
         compared: compared,
         different: different,
@@ -147,9 +159,9 @@ fn replay(words: &[u32]) -> Tally {
 }
 
 fn main() {
-    let mut bytes = [0u8; 65536];
+    let mut bytes = [0u8; MAX_BYTES];
     let count = io::read_full(STDIN_FILENO, &mut bytes);
-    let mut words = [0u32; 16384];
+    let mut words = [0u32; MAX_WORDS];
     let whole = words_of(&bytes[..count], &mut words);
     let tally = replay(&words[..whole]);
     io::print_decimal(STDOUT_FILENO, tally.compared as u64);

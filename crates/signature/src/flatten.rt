@@ -18,7 +18,7 @@ use types::MAX_FLAT_TYPES;
 use types::Memory;
 use types::Refusal;
 
-// The source has these maxima.
+// The source names these maxima, and 01 gives their values.
 pub const MAX_FLAT_PARAMS: u32 = 16;
 
 pub const MAX_FLAT_ASYNC_PARAMS: u32 = 4;
@@ -122,6 +122,7 @@ pub fn flatten_lifting_types(side: Side, table: &[u32], n: u32, references: &[u3
 pub fn contains_borrow_resource(table: &[u32], n: u32, references: &[u32]) -> BorrowAnswer
     ensures { λ r. ⌜ borrowMeans r ≡ borrowAnswer (now (table .entry)) n (now (references .entry)) ⌝ }
 {
+    // What is reached knows no memory, so either will do.
     match gather(Memory::Memory32, table, n, references) {
         Gathered::All(all) => {
             let reach = all.reach;

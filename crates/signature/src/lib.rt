@@ -5,6 +5,9 @@ mod signatures;
 
 pub use flatten::BorrowAnswer;
 pub use flatten::Flattened;
+pub use flatten::MAX_FLAT_ASYNC_PARAMS;
+pub use flatten::MAX_FLAT_PARAMS;
+pub use flatten::MAX_FLAT_RESULTS;
 pub use flatten::Side;
 pub use flatten::contains_borrow_resource;
 pub use flatten::flatten_lifting_types;

@@ -7,7 +7,7 @@ use Prim.Native.Nat.{ℕ, zero, suc, _≤_, _<_}
 use native.Mathlib.Omega.{arith}
 use lib.Dec.{eqb}
 use lib.ListN.{length, getElem?}
-use Rattle.canon.specs.Answer.{is, lift}
+use Rattle.canon.specs.Answer.{is, mapOption}
 use Rattle.canon.specs.Types.{Ty, plain}
 use Rattle.canon.specs.Layout.{Memory, mem32, mem64, within, square, layout}
 use Rattle.canon.specs.Flat.{flatten, flatCount}
@@ -26,12 +26,12 @@ use Rattle.table.specs.declared.info.Info.{Info}
 -- a scalar of n bytes, in either memory
 
 abbrev Sized : ℕ → ℕ → Type 0
-Sized n k = ((m : Memory) → lift (layout m) (getElem? plain k) ≡ some (square n)) × (lift flatCount (getElem? plain k) ≡ some (some 1))
+Sized n k = ((m : Memory) → mapOption (layout m) (getElem? plain k) ≡ some (square n)) × (mapOption flatCount (getElem? plain k) ≡ some (some 1))
 
 pub as-wide : (k n : ℕ) → Sized n k → Plain k (record { layouts = record { in32 = square n; in64 = square n }; flats = some 1 })
 as-wide k n e = (wide, e .1)
   where
-    wide : (m : Memory) → lift (layout m) (getElem? plain k) ≡ some (within m (record { in32 = square n; in64 = square n }))
+    wide : (m : Memory) → mapOption (layout m) (getElem? plain k) ≡ some (within m (record { in32 = square n; in64 = square n }))
     wide mem32 = e .0 mem32
     wide mem64 = e .0 mem64
 
@@ -43,14 +43,14 @@ armed k = eqb k 0 || (eqb k 1 || (eqb k 2 || (eqb k 3 || (eqb k 4 || (eqb k 7 ||
 pub rest-is-four : (k : ℕ) → k ≤ 17 → armed k ≡ false → Sized 4 k
 unfolding armed layout flatCount
 rest-is-four k h e = (
-  λ m. rw e at (same-below 18 (λ i. cond (armed i) none (lift (layout m) (getElem? plain i))) (λ i. cond (armed i) none (some (square 4))) refl k (omega arith)),
-  rw e at (same-below 18 (λ i. cond (armed i) none (lift flatCount (getElem? plain i))) (λ i. cond (armed i) none (some (some 1))) refl k (omega arith)),
+  λ m. rw e at (same-below 18 (λ i. cond (armed i) none (mapOption (layout m) (getElem? plain i))) (λ i. cond (armed i) none (some (square 4))) refl k (omega arith)),
+  rw e at (same-below 18 (λ i. cond (armed i) none (mapOption flatCount (getElem? plain i))) (λ i. cond (armed i) none (some (some 1))) refl k (omega arith)),
 )
 
 -- only Borrow is a borrow
-reached : (k : ℕ) → k ≤ 17 → lift reach (getElem? plain k) ≡ some (record { borrow = eqb k 14 })
+reached : (k : ℕ) → k ≤ 17 → mapOption reach (getElem? plain k) ≡ some (record { borrow = eqb k 14 })
 unfolding reach
-reached k h = same-below 18 (λ i. lift reach (getElem? plain i)) (λ i. some (record { borrow = eqb i 14 })) refl k (omega arith)
+reached k h = same-below 18 (λ i. mapOption reach (getElem? plain i)) (λ i. some (record { borrow = eqb i 14 })) refl k (omega arith)
 
 -- there is a type for each
 pub there : (k : ℕ) → k ≤ 17 → (t : Ty) × (getElem? plain k ≡ some t)
@@ -69,7 +69,7 @@ pub string-is : {k : ℕ} → k ≡ 12 → Plain k (record { layouts = record { 
 unfolding layout flatCount
 string-is {k} e = (wide, rw e)
   where
-    wide : (m : Memory) → lift (layout m) (getElem? plain k) ≡ some (within m (record { in32 = record { size = 8; align = 4 }; in64 = record { size = 16; align = 8 } }))
+    wide : (m : Memory) → mapOption (layout m) (getElem? plain k) ≡ some (within m (record { in32 = record { size = 8; align = 4 }; in64 = record { size = 16; align = 8 } }))
     wide mem32 = rw e
     wide mem64 = rw e
 
@@ -91,8 +91,8 @@ info-is i t l f b =
 pub plain-is :
     (i : Info) (k : ℕ) →
     k ≤ 17 →
-    ((m : Memory) → lift (layout m) (getElem? plain k) ≡ some (within m (infoMeans i .abi .layouts))) →
-    ((m : Memory) → wordsIn m (i .flat) ≡ packed (lift (flatten m) (getElem? plain k))) →
+    ((m : Memory) → mapOption (layout m) (getElem? plain k) ≡ some (within m (infoMeans i .abi .layouts))) →
+    ((m : Memory) → wordsIn m (i .flat) ≡ packed (mapOption (flatten m) (getElem? plain k))) →
     i .reach ≡ reachOf (record { borrow = eqb k 14 }) →
     is (infoMeans i) ≡ plainInfo (getElem? plain k)
 unfolding plainInfo

@@ -5,7 +5,7 @@ use mathlib.Core.Option.{some}
 use mathlib.Core.Path.{_≡_}
 use Prim.Native.Nat.{ℕ}
 use lib.ListN.{getElem?}
-use Rattle.canon.specs.Answer.{Leaf, is, no, lift, badRef}
+use Rattle.canon.specs.Answer.{Leaf, is, no, mapOption, badRef}
 use Rattle.canon.specs.Flat.{flatCount}
 use Rattle.canon.specs.Layout.{Memory, within, layout}
 use Rattle.canon.specs.Row as canon
@@ -40,7 +40,7 @@ infoMeans i =
 -- the five numbers of a reference without a definition
 abbrev pub Plain : ℕ → canon.Abi → Type 0
 Plain k a =
-    ((m : Memory) → lift (layout m) (getElem? plain k) ≡ some (within m (a .layouts))) × (lift flatCount (getElem? plain k) ≡ some (a .flats))
+    ((m : Memory) → mapOption (layout m) (getElem? plain k) ≡ some (within m (a .layouts))) × (mapOption flatCount (getElem? plain k) ≡ some (a .flats))
 
 -- 01's number of the refusal: a bad reference
 abbrev pub foundMeans : Found → Leaf canon.Info

@@ -4,19 +4,28 @@ ghost use Prim.Native.Nat.{_*_, _≤_, _<_};
 ghost use lib.ListN.{length};
 ghost use Rattle.canon.specs.Table.{capacity, place, cell, putFrom};
 
+// Every row has so many words.
+pub const ROW_WORDS: usize = 16;
+
+// No table has more rows, whatever the buffer holds.
+pub const MOST_ROWS: usize = 1024;
+
+pub const TABLE_WORDS: usize = MOST_ROWS * ROW_WORDS;
+
 // Answers how many rows a buffer of so many words has room for.
 pub fn capacity(words: usize) -> usize
     ensures { λ r. ⌜ (r ≡ capacity words) × (r ≤ 1024) × (16 * r ≤ words) ⌝ }
 {
-    let rows = words / 16;
-    if rows < 1024 { rows } else { 1024 }
+    let rows = words / ROW_WORDS;
+    if rows < MOST_ROWS { rows } else { MOST_ROWS }
 }
 
+// Rows lie one after another, so that `room` plays no part; callers give it, so that this function alone knows.
 pub(crate) fn place(room: usize, row: usize, word: usize) -> usize
     requires { ⌜ (row < room) × (word < 16) × (room ≤ 1024) ⌝ }
     ensures { λ r. ⌜ r ≡ place room row word ⌝ }
 {
-    16 * row + word
+    ROW_WORDS * row + word
 }
 
 pub(crate) fn cell(table: &[u32], room: usize, row: usize, word: usize) -> u32
@@ -27,12 +36,12 @@ pub(crate) fn cell(table: &[u32], room: usize, row: usize, word: usize) -> u32
     table[at]
 }
 
-pub(crate) fn put_words(table: &mut [u32], room: usize, row: usize, words: [u32; 16])
+pub(crate) fn put_cells(table: &mut [u32], room: usize, row: usize, words: [u32; ROW_WORDS])
     requires { ⌜ (row < room) × (room ≤ 1024) × (16 * room ≤ length (now table)) ⌝ }
     ensures { λ _. ⌜ now (table .exit) ≡ putFrom room row 0 words (now (table .entry)) ⌝ }
 {
     let mut k: usize = 0;
-    while k < 16 {
+    while k < ROW_WORDS {
         let at = place(room, row, k);
         table[at] = words[k];
         k += 1;

@@ -8,6 +8,9 @@ mod read;
 mod row;
 mod to_bytes;
 
+pub use cells::MOST_ROWS;
+pub use cells::ROW_WORDS;
+pub use cells::TABLE_WORDS;
 pub use cells::capacity;
 pub use from_bytes::take_row;
 pub use info::DefinitionIndex;

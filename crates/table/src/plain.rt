@@ -50,6 +50,7 @@ fn reach(reference: u32) -> Reach
     }
 }
 
+// Refuses BadRef for every word above 17.
 pub fn plain_info(reference: u32) -> Found
     ensures { λ r. ⌜ (foundMeans r ≡ plainInfo (getElem? plain reference)) × (foundGood r ≡ true) ⌝ }
 {

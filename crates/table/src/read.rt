@@ -58,7 +58,7 @@ fn row_types(table: &[u32], index: DefinitionIndex) -> FlatTypes
     )
 }
 
-// Tests the words that no info has: the discriminant's size is 0, 1, 2 or 4, and the reach is good.
+// Tests words 8 and 15: the discriminant's size is 0, 1, 2 or 4, and the reach is good.
 fn good_rest(table: &[u32], index: DefinitionIndex) -> bool
     ensures { λ r. ⌜ r ≡ isDiscriminant (word (rowIn (now (table .entry)) (index .0)) 8) && goodReach (word (rowIn (now (table .entry)) (index .0)) 15) ⌝ }
 {

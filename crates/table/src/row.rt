@@ -2,8 +2,9 @@
 ghost use mathlib.Core.Path.{_≡_};
 ghost use Rattle.table.specs.Means.{rowMeans};
 ghost use Rattle.table.specs.Rows.{tableWith};
+use crate::cells::ROW_WORDS;
 use crate::cells::capacity;
-use crate::cells::put_words;
+use crate::cells::put_cells;
 use crate::info::DefinitionIndex;
 use crate::info::Info;
 use types::Layouts;
@@ -22,7 +23,7 @@ pub struct Row {
     pub inner: Inner,
 }
 
-fn row_words(row: Row) -> [u32; 16]
+fn row_words(row: Row) -> [u32; ROW_WORDS]
     ensures { λ r. ⌜ r ≡ rowMeans row ⌝ }
 {
     let flat = row.info.flat;
@@ -53,6 +54,6 @@ pub fn put_row(table: &mut [u32], index: DefinitionIndex, row: Row)
     let room = capacity(table.len());
     let at = index.0 as usize;
     if at < room {
-        put_words(table, room, at, row_words(row));
+        put_cells(table, room, at, row_words(row));
     }
 }

@@ -5,21 +5,22 @@ ghost use lib.ListN.{length};
 ghost use Rattle.canon.specs.Table.{cellsFrom, putFrom};
 ghost use Rattle.words.specs.Words.{wholeWords, putWords};
 ghost use Rattle.table.specs.Rows.{rowIn, tableWith};
+use crate::cells::ROW_WORDS;
 use crate::cells::capacity;
 use crate::cells::cell;
 use crate::cells::place;
 use crate::info::DefinitionIndex;
 use words::put_word_at;
 
-// `from` is the room of the table and `to` that of the bytes: a cell has its place by each.
-fn give_cells(table: &[u32], from: usize, bytes: &mut [u8], to: usize, row: usize)
-    requires { ⌜ (row < from) × (from ≤ 1024) × (16 * from ≤ length (now table)) × (row < to) × (to ≤ 1024) ⌝ }
-    ensures { λ _. ⌜ now (bytes .exit) ≡ putWords 0 (putFrom to row 0 (cellsFrom from (now (table .entry)) row 0 16) (wholeWords (now (bytes .entry)))) (now (bytes .entry)) ⌝ }
+// The two tables may have room for more rows the one than the other, so each cell is found in each.
+fn give_cells(table: &[u32], room: usize, bytes: &mut [u8], bytes_room: usize, row: usize)
+    requires { ⌜ (row < room) × (room ≤ 1024) × (16 * room ≤ length (now table)) × (row < «bytes_room») × («bytes_room» ≤ 1024) ⌝ }
+    ensures { λ _. ⌜ now (bytes .exit) ≡ putWords 0 (putFrom «bytes_room» row 0 (cellsFrom room (now (table .entry)) row 0 16) (wholeWords (now (bytes .entry)))) (now (bytes .entry)) ⌝ }
 {
     let mut k: usize = 0;
-    while k < 16 {
-        let at = place(to, row, k);
-        put_word_at(bytes, at, cell(table, from, row, k));
+    while k < ROW_WORDS {
+        let at = place(bytes_room, row, k);
+        put_word_at(bytes, at, cell(table, room, row, k));
         k += 1;
     }
 }
@@ -28,12 +29,12 @@ fn give_cells(table: &[u32], from: usize, bytes: &mut [u8], to: usize, row: usiz
 pub fn give_row(table: &[u32], index: DefinitionIndex, bytes: &mut [u8])
     ensures { λ _. ⌜ now (bytes .exit) ≡ putWords 0 (tableWith (wholeWords (now (bytes .entry))) (index .0) (rowIn (now (table .entry)) (index .0))) (now (bytes .entry)) ⌝ }
 {
-    let from = capacity(table.len());
-    let to = capacity(bytes.len() / 4);
+    let room = capacity(table.len());
+    let bytes_room = capacity(bytes.len() / 4);
     let row = index.0 as usize;
-    if row < from {
-        if row < to {
-            give_cells(table, from, bytes, to, row);
+    if row < room {
+        if row < bytes_room {
+            give_cells(table, room, bytes, bytes_room, row);
         }
     }
 }

@@ -8,10 +8,10 @@ use lib.ListN.{length, take, getD}
 use lib.Seq.{take-all}
 use Rattle.types.specs.declared.info.CanonicalAbiInfo.{CanonicalAbiInfo}
 use Rattle.types.specs.Means.{abiMeans}
-use Rattle.types.specs.States.{Fields, noFields, addField, addFields}
+use Rattle.types.specs.States.{FieldState, noFields, addField, addFields}
 
 one-more :
-    (s : Fields) (ys : List CanonicalAbiInfo) (i : ℕ) (d : CanonicalAbiInfo) →
+    (s : FieldState) (ys : List CanonicalAbiInfo) (i : ℕ) (d : CanonicalAbiInfo) →
     i < length ys →
     addFields s (map abiMeans (take (suc i) ys)) ≡ addField (addFields s (map abiMeans (take i ys))) (abiMeans (getD ys i d))
 unfolding addFields
@@ -19,7 +19,7 @@ one-more s [] i d l = absurd (not-suc-le-zero l)
 one-more s (y ∷ ys) zero d l = refl
 one-more s (y ∷ ys) (suc i) d l = one-more (addField s (abiMeans y)) ys i d (le-of-suc-le-suc l)
 
-abbrev pub after : List CanonicalAbiInfo → ℕ → Fields
+abbrev pub after : List CanonicalAbiInfo → ℕ → FieldState
 after ys i = addFields noFields (map abiMeans (take i ys))
 
 pub after-none : (ys : List CanonicalAbiInfo) → noFields ≡ after ys 0

@@ -11,7 +11,7 @@ use Rattle.canon.proofs.Sizes.{record-decides}
 use Rattle.canon.proofs.Tests.{both-true}
 use Rattle.canon.proofs.Rounding.{abi-tested}
 use Rattle.types.specs.Leaves.{given, allGood, abiLayouts, flatsOf, recordAnswer}
-use Rattle.types.specs.States.{fittedAbi, Fields, noFields, addField, addFields, closeFields}
+use Rattle.types.specs.States.{fittedAbi, FieldState, noFields, addField, addFields, closeFields}
 use Rattle.types.proofs.ExtentLaws.{both-same, membersOf, record-reach}
 use Rattle.types.proofs.AnswerLaws.{fitted-answer}
 
@@ -28,7 +28,7 @@ one-bad false true h = refl
 one-bad false false h = refl
 
 -- the state's parts after the fields
-after : (s : Fields) (is′ : List Abi) →
+after : (s : FieldState) (is′ : List Abi) →
     addFields s is′
     ≡ record {
       extents = both (λ m. membersOf (within m (s .extents)) (abiLayouts m is′));
@@ -50,7 +50,7 @@ pub record-answer : (is′ : List Abi) → closeFields (addFields noFields is′
 unfolding closeFields fittedAbi recordAnswer given
 record-answer is′ = ap closeFields (after noFields is′) ∙ go (allGood is′) refl
   where
-    state : Bool → Fields
+    state : Bool → FieldState
     state b =
         record {
           extents = both (λ m. membersOf (within m (noFields .extents)) (abiLayouts m is′));

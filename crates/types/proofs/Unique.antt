@@ -43,7 +43,7 @@ use Rattle.types.specs.declared.variant.VariantAnswer.{VariantAnswer}
 use Rattle.types.specs.declared.variant.VariantAnswer.the-variants as variant
 use Rattle.types.specs.Leaves.{Field, VariantAbi, recordAnswer}
 use Rattle.types.specs.Means.{roundedMeans, countMeans, bytesOf, discriminantMeans, layoutMeans, layoutsMeans, extentsOf, fittedMeans, abiMeans, infoAnswerMeans, nextMeans, variantMeans}
-use Rattle.types.specs.States.{Fields, recordMeans, Cases, casesMeans}
+use Rattle.types.specs.States.{FieldState, recordMeans, CaseState, casesMeans}
 use Rattle.types.proofs.Told.{told, refusalOf, refusal-back}
 use Rattle.types.proofs.refusal.Refusal.number.Reads as number-reads
 use Rattle.types.proofs.round.align_to.Reads as align-to-reads
@@ -198,13 +198,13 @@ variant-one = told variantMeans from back
 record-one : (r q : RecordState) → recordMeans r ≡ recordMeans q → r ≡ q
 record-one = told recordMeans from (λ s. rw (count-back (s .flat)))
   where
-    from : Fields → RecordState
+    from : FieldState → RecordState
     from f = record { extents = extentsOf (f .extents); flat = countFrom (f .flats); bad = f .bad }
 
 cases-one : (r q : VariantState) → casesMeans r ≡ casesMeans q → r ≡ q
 cases-one = told casesMeans from (λ s. rw (count-back (s .flat)))
   where
-    from : Cases → VariantState
+    from : CaseState → VariantState
     from f =
         record {
           layouts = layoutsFrom (f .payloads);

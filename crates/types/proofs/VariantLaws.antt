@@ -51,7 +51,7 @@ use Rattle.types.specs.Means.{bytesOf}
 use Rattle.types.specs.declared.discriminant.DiscriminantSize.{DiscriminantSize}
 use Rattle.types.specs.declared.discriminant.DiscriminantSize.the-variants.{Size1, Size2, Size4}
 use Rattle.types.specs.Extents.{extentAt, memberOf, widest, variantStep}
-use Rattle.types.specs.States.{Cases, oneMore, noCases, addCase, addCases, sizedCases, closeCases}
+use Rattle.types.specs.States.{CaseState, oneMore, noCases, addCase, addCases, sizedCases, closeCases}
 use Rattle.types.proofs.RoundLaws.{rounded-between}
 use Rattle.types.proofs.ExtentLaws.{both-same, reach-is, member-reach, close-reach}
 use Rattle.types.proofs.AnswerLaws.{fitted-answer, discriminant-then}
@@ -157,7 +157,7 @@ discriminant-stops n = go (leb n 65536) refl
         rw e (simp (lt-leb n 256 (omega arith), lt-leb n 65536 l, ne-eqb n 0 (λ z. omega arith)))
 
 -- the state's parts after the cases
-after : (s : Cases) (cs : List (Option Abi)) →
+after : (s : CaseState) (cs : List (Option Abi)) →
     addCases s cs
     ≡ record {
       payloads = both (λ m. widestOf (within m (s .payloads)) (abiLayouts m (payloadsOf cs)));
@@ -198,7 +198,7 @@ pub variant-answer : (cs : List (Option Abi)) → closeCases (addCases noCases c
 unfolding closeCases variantAnswer given
 variant-answer cs = ap closeCases (after noCases cs) ∙ go (allGood (payloadsOf cs)) refl
   where
-    state : Bool → Cases
+    state : Bool → CaseState
     state b =
         record {
           payloads = both (λ m. widestOf (within m (noCases .payloads)) (abiLayouts m (payloadsOf cs)));

@@ -27,6 +27,7 @@ use Rattle.canon.specs.Layout.{
   fixedLayout,
   largestNumber,
   roundUp,
+  endAfter,
   mostFlags,
 }
 use Rattle.canon.specs.Flat.{sumFlat, variantCount, flagsCount, timesFlat}
@@ -60,7 +61,7 @@ pub record Field : Type 0 where
 
 unfoldable pub fieldAfter : ℕ → Layout → Leaf Field
 fieldAfter e f =
-    fitting (starts e (f ∷ []) ++ ends e (f ∷ [])) (record { offset = roundUp e (f .align); end = roundUp e (f .align) + f .size })
+    fitting (starts e (f ∷ []) ++ ends e (f ∷ [])) (record { offset = roundUp e (f .align); end = endAfter e f })
 
 -- "8 for a bad info, before 6"
 unfoldable pub nextField : Memory → Abi → ℕ → Leaf Field

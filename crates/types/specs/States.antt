@@ -20,18 +20,18 @@ fittedAbi es c = andThen (fittedOf es) (λ ls. is (record { layouts = ls; flats 
 
 -- A record
 
-pub record Fields : Type 0 where
+pub record FieldState : Type 0 where
   pub extents : Both Extent
   pub flats : Option ℕ
   pub bad : Bool
 
-abbrev pub recordMeans : RecordState → Fields
+abbrev pub recordMeans : RecordState → FieldState
 recordMeans s = record { extents = extentsMeans (s .extents); flats = countMeans (s .flat); bad = s .bad }
 
-abbrev pub noFields : Fields
+abbrev pub noFields : FieldState
 noFields = record { extents = both (λ m. startExtent); flats = some 0; bad = false }
 
-unfoldable pub addField : Fields → Abi → Fields
+unfoldable pub addField : FieldState → Abi → FieldState
 addField s i =
     record {
       extents = both (λ m. memberOf (within m (s .extents)) (within m (i .layouts)) .extent);
@@ -39,23 +39,23 @@ addField s i =
       bad = s .bad || not (goodAbi i);
     }
 
-unfoldable pub addFields : Fields → List Abi → Fields
+unfoldable pub addFields : FieldState → List Abi → FieldState
 addFields s [] = s
 addFields s (i ∷ is′) = addFields (addField s i) is′
 
 -- `CanonicalAbiInfo::record`: 8, then 6
-unfoldable pub closeFields : Fields → Leaf Abi
+unfoldable pub closeFields : FieldState → Leaf Abi
 closeFields s = given (not (s .bad)) badRow (fittedAbi (both (λ m. closeOf (within m (s .extents)))) (s .flats))
 
 -- A variant
 
-pub record Cases : Type 0 where
+pub record CaseState : Type 0 where
   pub payloads : Both Layout
   pub flats : Option ℕ
   pub count : ℕ
   pub bad : Bool
 
-abbrev pub casesMeans : VariantState → Cases
+abbrev pub casesMeans : VariantState → CaseState
 casesMeans s =
     record {
       payloads = layoutsMeans (s .layouts);
@@ -68,10 +68,10 @@ casesMeans s =
 abbrev pub oneMore : ℕ → ℕ
 oneMore n = min (n + 1) 65537
 
-abbrev pub noCases : Cases
+abbrev pub noCases : CaseState
 noCases = record { payloads = both (λ m. record { size = 0; align = 1 }); flats = some 0; count = 0; bad = false }
 
-unfoldable pub addCase : Cases → Option Abi → Cases
+unfoldable pub addCase : CaseState → Option Abi → CaseState
 addCase s none = record { payloads = s .payloads; flats = s .flats; count = oneMore (s .count); bad = s .bad }
 addCase s (some i) =
     record {
@@ -81,12 +81,12 @@ addCase s (some i) =
       bad = s .bad || not (goodAbi i);
     }
 
-unfoldable pub addCases : Cases → List (Option Abi) → Cases
+unfoldable pub addCases : CaseState → List (Option Abi) → CaseState
 addCases s [] = s
 addCases s (c ∷ cs) = addCases (addCase s c) cs
 
 -- with a discriminant of d bytes
-unfoldable pub sizedCases : ℕ → Cases → Leaf VariantAbi
+unfoldable pub sizedCases : ℕ → CaseState → Leaf VariantAbi
 sizedCases d s =
     andThen
     (fittedOf (both (λ m. variantStep d (within m (s .payloads)) .extent)))
@@ -99,5 +99,5 @@ sizedCases d s =
     }))
 
 -- `VariantInfo::new`: 8, then 5, then 6
-unfoldable pub closeCases : Cases → Leaf VariantAbi
+unfoldable pub closeCases : CaseState → Leaf VariantAbi
 closeCases s = given (not (s .bad)) badRow (andThen (discriminantAnswer (s .count)) (λ d. sizedCases d s))

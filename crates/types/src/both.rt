@@ -103,8 +103,8 @@ impl Steps {
 
 impl Extents {
     pub const EMPTY: Extents = Extents {
-        in32: Extent { end: 0, align: 1 },
-        in64: Extent { end: 0, align: 1 },
+        in32: Extent::EMPTY,
+        in64: Extent::EMPTY,
     };
 
     pub fn member(self, member: Layouts) -> Steps

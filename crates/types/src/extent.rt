@@ -29,7 +29,7 @@ pub struct Step {
 }
 
 // This is one more than 01's greatest start, end or size.
-const FOUR_GIB: u64 = 4294967296;
+pub const FOUR_GIB: u64 = LARGEST + 1;
 
 fn stopped(end: u64) -> u64
     ensures { λ r. ⌜ r ≡ min end fourGiB ⌝ }

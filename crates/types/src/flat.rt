@@ -7,6 +7,9 @@ ghost use Rattle.types.specs.Means.{countMeans};
 // 01: "a sum or product above 16 is none".
 pub const MAX_FLAT_TYPES: u32 = 16;
 
+// 01: "flat count, 255 for none".
+pub const NO_FLAT_COUNT: u32 = 255;
+
 pub enum FlatCount {
     Count(u8),
     None,

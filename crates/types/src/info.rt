@@ -1,8 +1,8 @@
 // An info holds what the canonical ABI says of a type, for both memories.
 ghost use mathlib.Core.Path.{_≡_};
+ghost use mathlib.Core.Bool.{true};
 ghost use Rattle.canon.specs.Layout.{mem32, mem64};
-ghost use Rattle.canon.specs.Row.{goodAbi};
-ghost use Rattle.canon.proofs.Rounding.{Alignment};
+ghost use Rattle.canon.specs.Row.{isAlignment, goodAbi};
 ghost use Rattle.types.specs.Means.{memoryOf, countMeans, layoutMeans, layoutsMeans, extentsMeans, abiMeans, infoAnswerMeans, nextMeans};
 ghost use Rattle.types.specs.Leaves.{scalarAbi, fixedAnswer, fieldAfter, nextField, flagsAnswer, enumAnswer};
 ghost use Rattle.types.specs.States.{fittedAbi};
@@ -223,7 +223,7 @@ impl CanonicalAbiInfo {
 
 // Places a field after an end, in one memory.
 fn field_after(end: u32, field: Layout) -> NextField
-    requires { ⌜ Alignment (field .align) ⌝ }
+    requires { ⌜ isAlignment (field .align) ≡ true ⌝ }
     ensures { λ r. ⌜ nextMeans r ≡ fieldAfter end (layoutMeans field) ⌝ }
 {
     let before = Extent {

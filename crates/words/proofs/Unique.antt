@@ -6,10 +6,18 @@ use contract.Lifetimes.{Lfts}
 use lib.ListN.{take, drop}
 use denote.Ref.{RefT, now, at-last}
 use Rattle.words.specs.Words.{wholeWords}
+use Rattle.words.proofs.reading.from_le_bytes.Reads as from-le-bytes
 use Rattle.words.proofs.reading.word_at.Reads as word-at
 use Rattle.words.proofs.reading.words_of.Reads as words-of
 use Rattle.words.proofs.writing.put_word_at.Reads as put-word-at
 use Rattle.words.proofs.writing.put_words.Reads as put-words
+
+pub from-le-bytes-one :
+    (κs : Lfts 0) (a b c d r q : ℕ) →
+    from-le-bytes.Post κs (a, (b, (c, (d, tt)))) r (a, (b, (c, (d, tt)))) →
+    from-le-bytes.Post κs (a, (b, (c, (d, tt)))) q (a, (b, (c, (d, tt)))) →
+    r ≡ q
+from-le-bytes-one κs a b c d r q g h = g ∙ sym h
 
 pub word-at-one : (κs : Lfts 1) (b : RefT (List ℕ)) (k r q : ℕ) → word-at.Post κs (b, (k, tt)) r (b, (k, tt)) → word-at.Post κs (b, (k, tt)) q (b, (k, tt)) → r ≡ q
 word-at-one κs b k r q g h = g ∙ sym h

@@ -3,9 +3,13 @@ use mathlib.Core.List.{List, [], _∷_}
 use Prim.Native.Nat.{ℕ, zero, suc, _+_, _*_, _/_, _%_}
 use lib.ListN.{length, getD, set}
 
--- "little-endian": the word k of bytes, the lowest byte first
+-- "little-endian": a word of four bytes, the lowest first
+abbrev pub wordOf : ℕ → ℕ → ℕ → ℕ → ℕ
+wordOf a b c d = a + 256 * b + 65536 * c + 16777216 * d
+
+-- the word k of bytes
 unfoldable pub wordAt : List ℕ → ℕ → ℕ
-wordAt b k = getD b (4 * k) 0 + 256 * getD b (4 * k + 1) 0 + 65536 * getD b (4 * k + 2) 0 + 16777216 * getD b (4 * k + 3) 0
+wordAt b k = wordOf (getD b (4 * k) 0) (getD b (4 * k + 1) 0) (getD b (4 * k + 2) 0) (getD b (4 * k + 3) 0)
 
 -- "words": so many from the word k on
 unfoldable pub wordsOf : List ℕ → ℕ → ℕ → List ℕ

@@ -2,6 +2,7 @@
 mod reading;
 mod writing;
 
+pub use reading::from_le_bytes;
 pub use reading::word_at;
 pub use reading::words_of;
 pub use writing::put_word_at;

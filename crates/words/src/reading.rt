@@ -3,7 +3,7 @@ ghost use mathlib.Core.Path.{_≡_};
 ghost use mathlib.Core.List.{_++_};
 ghost use Prim.Native.Nat.{_+_, _*_, _/_, _≤_, min};
 ghost use lib.ListN.{length, getD, take, drop};
-ghost use Rattle.words.specs.Words.{wordAt, wholeWords};
+ghost use Rattle.words.specs.Words.{wordOf, wordAt, wholeWords};
 
 fn wide(x: u8) -> u32
     ensures { λ r. ⌜ (r ≡ x) × (r ≤ 255) ⌝ }
@@ -11,19 +11,22 @@ fn wide(x: u8) -> u32
     x as u32
 }
 
+// Makes a word of four bytes, the lowest first.
+pub fn from_le_bytes(a: u8, b: u8, c: u8, d: u8) -> u32
+    ensures { λ r. ⌜ r ≡ wordOf a b c d ⌝ }
+{
+    wide(a) + 256 * wide(b) + 65536 * wide(c) + 16777216 * wide(d)
+}
+
 fn four_bytes(bytes: &[u8], k: usize) -> u32
     requires { ⌜ 4 * k + 4 ≤ length (now bytes) ⌝ }
     ensures { λ r. ⌜ r ≡ wordAt (now (bytes .entry)) k ⌝ }
 {
     let at = 4 * k;
-    let a = wide(bytes[at]);
-    let b = wide(bytes[at + 1]);
-    let c = wide(bytes[at + 2]);
-    let d = wide(bytes[at + 3]);
-    a + 256 * b + 65536 * c + 16777216 * d
+    from_le_bytes(bytes[at], bytes[at + 1], bytes[at + 2], bytes[at + 3])
 }
 
-pub(crate) fn lesser(a: usize, b: usize) -> usize
+pub(crate) fn min(a: usize, b: usize) -> usize
     ensures { λ r. ⌜ r ≡ min a b ⌝ }
 {
     if a < b { a } else { b }
@@ -44,7 +47,7 @@ pub fn word_at(bytes: &[u8], k: usize) -> u32
 pub fn words_of(bytes: &[u8], words: &mut [u32]) -> usize
     ensures { λ r. ⌜ (r ≡ min (length (now (bytes .entry)) / 4) (length (now (words .entry)))) × (now (words .exit) ≡ take r (wholeWords (now (bytes .entry))) ++ drop r (now (words .entry))) ⌝ }
 {
-    let n = lesser(bytes.len() / 4, words.len());
+    let n = min(bytes.len() / 4, words.len());
     let mut k: usize = 0;
     while k < n {
         words[k] = four_bytes(bytes, k);

@@ -3,7 +3,7 @@ ghost use mathlib.Core.Path.{_≡_};
 ghost use Prim.Native.Nat.{_+_, _*_, _/_, _≤_};
 ghost use lib.ListN.{length, take, set};
 ghost use Rattle.words.specs.Words.{wholeWords, putWord, putWords};
-use crate::reading::lesser;
+use crate::reading::min;
 
 fn put_word(bytes: &mut [u8], k: usize, word: u32)
     requires { ⌜ 4 * k + 4 ≤ length (now bytes) ⌝ }
@@ -33,7 +33,7 @@ pub fn put_word_at(bytes: &mut [u8], k: usize, word: u32)
 pub fn put_words(words: &[u32], bytes: &mut [u8])
     ensures { λ _. ⌜ now (bytes .exit) ≡ putWords 0 (take (length (now (bytes .entry)) / 4) (now (words .entry))) (now (bytes .entry)) ⌝ }
 {
-    let n = lesser(bytes.len() / 4, words.len());
+    let n = min(bytes.len() / 4, words.len());
     let mut k: usize = 0;
     while k < n {
         put_word(bytes, k, words[k]);

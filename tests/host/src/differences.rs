@@ -116,6 +116,24 @@ fn leaves() -> Vec<Leaf> {
     ]
 }
 
+/// A record and a variant that pass 4294967295: size and alignment in both memories, and of the variant
+/// where its payload stands.
+fn large_leaves() -> Vec<Leaf> {
+    let large = [4_294_967_295, 1, 4_294_967_295, 1, 255];
+    let infos = [large, [1, 1, 1, 1, 1]].concat();
+    let cases = [&[1], &large[..]].concat();
+    let record = |k| Leaf::Record {
+        infos: infos.clone(),
+        k,
+    };
+    let variant = |k| Leaf::Variant {
+        cases: cases.clone(),
+        k,
+    };
+    let records = [0, 1, 2, 3].map(record).into_iter();
+    records.chain([0, 1, 2, 3, 6, 7].map(variant)).collect()
+}
+
 pub fn print() {
     let checked = cfg!(debug_assertions);
     let how = if checked {
@@ -133,7 +151,7 @@ pub fn print() {
         }
     }
     println!("\nleaves");
-    for leaf in leaves() {
+    for leaf in leaves().into_iter().chain(large_leaves()) {
         println!("  {leaf:?}");
         println!("    original: {}", outcome(original::leaf(&leaf)));
         println!("    model:    {}", said(encode::leaf(model::leaf(&leaf))));

@@ -1,15 +1,15 @@
 -- Safe and ending: no more entries than words; the measure is what is left of the list.
-use Prim.Native.Nat.{_-_, _≤_}
+use Prim.Native.Nat.{_+_, _-_, _≤_}
 use lib.ListN.{length}
 use borrow.Author.Needs.{needs}
 use Rattle.replay.proofs.replay.Statement.{statement}
 use Rattle.replay.proofs.replay.Tie as tie
 
 abbrev Inv-loop : tie.InvT-loop
-Inv-loop words compared₀ different₀ at₀ compared different at = (compared ≤ at) × (different ≤ at)
+Inv-loop words entries₀ compared₀ different₀ at₀ entries compared different at = (entries ≤ at) × (compared ≤ at) × (different ≤ at) × (at ≤ length words + 2)
 
 abbrev μ-loop : tie.MeasureT-loop
-μ-loop words compared₀ different₀ at₀ compared different at = length words - at
+μ-loop words entries₀ compared₀ different₀ at₀ entries compared different at = length words - at
 
 loop-holds : tie.Need-loop-holds Inv-loop μ-loop
 loop-holds c = search needs
@@ -29,11 +29,14 @@ cast-size c = search needs
 add-if1 : tie.Need-add-if1 Inv-loop μ-loop
 add-if1 c = search needs
 
-add-t12 : tie.Need-add-t12 Inv-loop μ-loop
-add-t12 c = search needs
+add-t13 : tie.Need-add-t13 Inv-loop μ-loop
+add-t13 c = search needs
 
 returns : tie.Need-returns Inv-loop μ-loop
 returns c = search needs
+
+add-entries : tie.Need-add-entries Inv-loop μ-loop
+add-entries c = search needs
 
 add-first : tie.Need-add-first Inv-loop μ-loop
 add-first c = search needs
@@ -98,8 +101,20 @@ loop-less-3 c = search needs
 loop-again-3 : tie.Need-loop-again-3 Inv-loop μ-loop
 loop-again-3 c = search needs
 
+word-requires-2 : tie.Need-word-requires-2 Inv-loop μ-loop
+word-requires-2 c κs = search needs
+
+cast-if2 : tie.Need-cast-if2 Inv-loop μ-loop
+cast-if2 c = search needs
+
+add-t24 : tie.Need-add-t24 Inv-loop μ-loop
+add-t24 c = search needs
+
 returns-2 : tie.Need-returns-2 Inv-loop μ-loop
 returns-2 c = search needs
+
+returns-3 : tie.Need-returns-3 Inv-loop μ-loop
+returns-3 c = search needs
 
 pub replay-spec : {M : Type 1} → statement M
 replay-spec =
@@ -113,8 +128,9 @@ replay-spec =
     word-requires
     cast-size
     add-if1
-    add-t12
+    add-t13
     returns
+    add-entries
     add-first
     add-end
     mul-compare
@@ -136,4 +152,8 @@ replay-spec =
     loop-again-2
     loop-less-3
     loop-again-3
-    returns-2)
+    word-requires-2
+    cast-if2
+    add-t24
+    returns-2
+    returns-3)

@@ -4,7 +4,7 @@ use Rattle.canon.specs.Row.{noInner, infoLayout}
 use denote.Ref.{now}
 use Prim.Native.Nat.{_+_, _*_}
 use lib.ListN.{getD}
-use Rattle.canon.specs.Answer.{lift, andThen}
+use Rattle.canon.specs.Answer.{mapOption, andThen}
 use Rattle.canon.specs.Flat.{copies}
 use Rattle.canon.specs.Pack.{Packed}
 use Rattle.flat_types.specs.Lists.{unpacked, packed, memoryWords, wordsIn}
@@ -63,7 +63,7 @@ returns-2 c =
     let a = c .before .before .before .before .before .before .before .before .before .before .before .before .before .before .args in
     let n = getD (now (a .words)) (a .first + 1) 0 in
     let ends : extentsMeans (c .before .before .repeat .result) ≡ both (λ m. extentAt (infoLayout m (infoMeans (i .0 .0)) .size * n) (infoLayout m (infoMeans (i .0 .0)) .align)) = rw (c .before .before .repeat .ensures) in
-    let words : (m : Memory) → wordsIn m (c .before .repeat2 .result) ≡ packed (lift (copies n) (unpacked (memoryWords m (infoFlat (infoMeans (i .0 .0)))))) = λ m. c .before .repeat2 .ensures m ∙ ap (λ (p : Packed). packed (lift (copies n) (unpacked (memoryWords m p)))) (sym (flat-kept (i .0 .0))) in
+    let words : (m : Memory) → wordsIn m (c .before .repeat2 .result) ≡ packed (mapOption (copies n) (unpacked (memoryWords m (infoFlat (infoMeans (i .0 .0)))))) = λ m. c .before .repeat2 .ensures m ∙ ap (λ (p : Packed). packed (mapOption (copies n) (unpacked (memoryWords m p)))) (sym (flat-kept (i .0 .0))) in
     c .fit-row .ensures
     ∙ fit-same {ns = both (λ m. noInner)} 10 ends (λ j. pairOf (words mem32 j) (words mem64 j)) refl refl
     ∙ sym (then-is (memberLook (now (a .table)) (a .index .0) (getD (now (a .words)) (a .first) 0)) (infoMeans (i .0 .0)) (fixedRow n) (sym (c .before .before .before .before .before .before .before .before .before .member-at .ensures) ∙ ap foundMeans (i .1)))

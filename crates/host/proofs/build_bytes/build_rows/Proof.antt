@@ -4,8 +4,9 @@ use mathlib.Core.List.{List}
 use Prim.Native.Nat.{ℕ}
 use denote.Ref.{now}
 use borrow.Author.Needs.{needs}
+use Rattle.build.specs.Means.{accepted}
 use Rattle.words.specs.Words.{wholeWords, putWords}
-use Rattle.host.specs.Local.{accepted, withRows}
+use Rattle.host.specs.Local.{withRows}
 use Rattle.host.specs.Numbers.{answerNumber, itself}
 use Rattle.host.proofs.Builds.{local-answer, local-rows}
 use Rattle.host.proofs.build_bytes.build_rows.Statement.{statement}

@@ -7,11 +7,11 @@ use Rattle.host.proofs.leaves.lampughjata_enum.Tie as tie
 enum--requires : tie.Need-enum--requires
 enum--requires c κs = search needs
 
-abi-number-requires : tie.Need-abi-number-requires
-abi-number-requires c κs = search needs
+info-number-requires : tie.Need-info-number-requires
+info-number-requires c κs = search needs
 
 returns : tie.Need-returns
-returns c = c .abi-number .ensures ∙ ap (leafNumber (λ a. chosen (c .before .before .args .k) (abiWords a))) (c .before .enum- .ensures)
+returns c = c .info-number .ensures ∙ ap (leafNumber (λ a. chosen (c .before .before .args .k) (abiWords a))) (c .before .enum- .ensures)
 
 pub lampughjata-enum-spec : {M : Type 1} → statement M
-lampughjata-enum-spec = tie.close (tie.spec enum--requires abi-number-requires returns)
+lampughjata-enum-spec = tie.close (tie.spec enum--requires info-number-requires returns)

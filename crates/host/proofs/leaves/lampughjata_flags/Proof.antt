@@ -7,11 +7,11 @@ use Rattle.host.proofs.leaves.lampughjata_flags.Tie as tie
 flags-requires : tie.Need-flags-requires
 flags-requires c κs = search needs
 
-abi-number-requires : tie.Need-abi-number-requires
-abi-number-requires c κs = search needs
+info-number-requires : tie.Need-info-number-requires
+info-number-requires c κs = search needs
 
 returns : tie.Need-returns
-returns c = c .abi-number .ensures ∙ ap (leafNumber (λ a. chosen (c .before .before .args .k) (abiWords a))) (c .before .flags .ensures)
+returns c = c .info-number .ensures ∙ ap (leafNumber (λ a. chosen (c .before .before .args .k) (abiWords a))) (c .before .flags .ensures)
 
 pub lampughjata-flags-spec : {M : Type 1} → statement M
-lampughjata-flags-spec = tie.close (tie.spec flags-requires abi-number-requires returns)
+lampughjata-flags-spec = tie.close (tie.spec flags-requires info-number-requires returns)

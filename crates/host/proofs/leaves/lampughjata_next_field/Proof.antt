@@ -4,8 +4,8 @@ use borrow.Author.Needs.{needs}
 use Rattle.host.proofs.leaves.lampughjata_next_field.Statement.{statement}
 use Rattle.host.proofs.leaves.lampughjata_next_field.Tie as tie
 
-abi-at-requires : tie.Need-abi-at-requires
-abi-at-requires c κs = search needs
+info-of-requires : tie.Need-info-of-requires
+info-of-requires c κs = search needs
 
 next-field-requires : tie.Need-next-field-requires
 next-field-requires c κs = search needs
@@ -14,8 +14,8 @@ field-number-requires : tie.Need-field-number-requires
 field-number-requires c κs = search needs
 
 returns : tie.Need-returns
-returns c = c .field-number .ensures ∙ ap (leafNumber (λ f. chosen (c .before .before .before .args .k) (fieldWords f))) (rw (c .before .before .abi-at .ensures) at (c .before .next-field .ensures))
+returns c = c .field-number .ensures ∙ ap (leafNumber (λ f. chosen (c .before .before .before .args .k) (fieldWords f))) (rw (c .before .before .info-of .ensures) at (c .before .next-field .ensures))
 
 pub lampughjata-next-field-spec : {M : Type 1} → statement M
 lampughjata-next-field-spec =
-    tie.close (tie.spec abi-at-requires next-field-requires field-number-requires returns)
+    tie.close (tie.spec info-of-requires next-field-requires field-number-requires returns)

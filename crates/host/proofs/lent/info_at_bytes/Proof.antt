@@ -30,14 +30,14 @@ add-word-at-4 c = search needs
 word-at-requires-5 : tie.Need-word-at-requires-5
 word-at-requires-5 c κs = search needs
 
-abi-at-requires : tie.Need-abi-at-requires
-abi-at-requires c κs = search needs
+info-of-requires : tie.Need-info-of-requires
+info-of-requires c κs = search needs
 
 returns : tie.Need-returns
 unfolding infoAt
 returns c =
     simp (
-      c .abi-at .ensures,
+      c .info-of .ensures,
       c .before .word-at5 .ensures,
       c .before .before .word-at4 .ensures,
       c .before .before .before .word-at3 .ensures,
@@ -58,5 +58,5 @@ info-at-bytes-spec =
     word-at-requires-4
     add-word-at-4
     word-at-requires-5
-    abi-at-requires
+    info-of-requires
     returns)

@@ -7,11 +7,11 @@ use Rattle.host.proofs.records.lampughjata_record.Tie as tie
 record-of-requires : tie.Need-record-of-requires
 record-of-requires c κs = search needs
 
-abi-number-requires : tie.Need-abi-number-requires
-abi-number-requires c κs = search needs
+info-number-requires : tie.Need-info-number-requires
+info-number-requires c κs = search needs
 
 returns : tie.Need-returns
-returns c = c .abi-number .ensures ∙ ap (leafNumber (λ a. chosen _ (abiWords a))) (c .before .record-of .ensures)
+returns c = c .info-number .ensures ∙ ap (leafNumber (λ a. chosen _ (abiWords a))) (c .before .record-of .ensures)
 
 pub lampughjata-record-spec : {M : Type 1} → statement M
-lampughjata-record-spec = tie.close (tie.spec record-of-requires abi-number-requires returns)
+lampughjata-record-spec = tie.close (tie.spec record-of-requires info-number-requires returns)

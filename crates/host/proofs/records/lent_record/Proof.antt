@@ -69,7 +69,7 @@ abbrev Z : RattleType
 Z = Y.the-row
 
 abbrev stayed : Stays (total.ended .signature .params) (total.ended .kept)
-stayed = (stay-dropped (arrayOf (plain (λ _. R)) 4) yes, (stay-dropped (plain (λ _. usize)) yes, tt))
+stayed = (stay-dropped (arrayOf (plain (λ _. R)) 2) yes, (stay-dropped (plain (λ _. usize)) yes, tt))
 
 -- what `record_static` promises
 abbrev Recorded : List CanonicalAbiInfo → InfoAnswer → Type 0
@@ -93,25 +93,25 @@ module _ {M : Type 1} (𝓤 : URA M) (H : Heap 𝓤) (A : Atoms 𝓤) (W : Given
   -- the call, on the front of the array at b
   module _ (κ : Lft) (b : ℕ) (γ : GName) where
     abbrev to-static : StaticC 𝓤 H A mem run .Ghost
-    to-static = (((κ, tt), (fullShare, tt), tt, (front 𝓤 H A W R 4 b infos n γ, tt), (sliceVal (b, 0) n ∷ [], tt)), tt)
+    to-static = (((κ, tt), (fullShare, tt), tt, (front 𝓤 H A W R 2 b infos n γ, tt), (sliceVal (b, 0) n ∷ [], tt)), tt)
 
-    goes-static : ent 𝓤 (sep 𝓤 (A .lft κ fullShare) (sem 𝓤 H A (Held 𝓤 H A W R 4 b infos n κ γ))) (StaticC 𝓤 H A mem run .pre to-static)
+    goes-static : ent 𝓤 (sep 𝓤 (A .lft κ fullShare) (sem 𝓤 H A (Held 𝓤 H A W R 2 b infos n κ γ))) (StaticC 𝓤 H A mem run .pre to-static)
     goes-static =
-        qed W (‵ (flft κ fullShare) ∷ ‵ (Held 𝓤 H A W R 4 b infos n κ γ) ∷ []) ∵ nothing ! $ move ! (2 ∷ 0 ∷ []) $ fjoin ! $ nothing ! $ move ! (2 ∷ 0 ∷ []) $ join ! $
+        qed W (‵ (flft κ fullShare) ∷ ‵ (Held 𝓤 H A W R 2 b infos n κ γ) ∷ []) ∵ nothing ! $ move ! (2 ∷ 0 ∷ []) $ fjoin ! $ nothing ! $ move ! (2 ∷ 0 ∷ []) $ join ! $
         move ! (0 ∷ 1 ∷ []) $ join ! $ frame ! $ done !
 
-    static-said : (r : InfoAnswer) → ent 𝓤 (ensured 𝓤 H A static.ended (static.clauses 𝓤 H A mem run) (κ, tt) (front 𝓤 H A W R 4 b infos n γ, tt) tt r)
+    static-said : (r : InfoAnswer) → ent 𝓤 (ensured 𝓤 H A static.ended (static.clauses 𝓤 H A mem run) (κ, tt) (front 𝓤 H A W R 2 b infos n γ, tt) tt r)
         (fact 𝓤 (Recorded (take n infos) r))
-    static-said r = exE 𝓤 _ (λ ws. snd∗ 𝓤 (sem 𝓤 H A (lasts static.ended (κ, tt) (front 𝓤 H A W R 4 b infos n γ, tt) ws)) (fact 𝓤 (Recorded (take n infos) r)))
+    static-said r = exE 𝓤 _ (λ ws. snd∗ 𝓤 (sem 𝓤 H A (lasts static.ended (κ, tt) (front 𝓤 H A W R 2 b infos n γ, tt) ws)) (fact 𝓤 (Recorded (take n infos) r)))
 
   z-typed : (a : InfoAnswer) (u : Val) → Is Z a (u ∷ []) → Holds (hasTy Y′.mir u) × WT u
   z-typed a u p = EL.lawful Y.the-type Y′.the-laws 𝓤 H A W tt .typed a (u ∷ []) p .0
 
   module _ (C : Calls 𝓤 H) (Λ : Loops 𝓤 H) (fm : FmC 𝓤 H (W .laws) C) (known : Triple 𝓤 (C #static) (StaticC 𝓤 H A mem run)) where
-    walk : n ≤ 4 → n < 2 ^ 64 → Is (Array R 4) infos (v ∷ [])
+    walk : n ≤ 2 → n < 2 ^ 64 → Is (Array R 2) infos (v ∷ [])
         → ent 𝓤 (onEntry 𝓤 H A total.signature tt tt (infos, (n, tt)) (v ∷ [], (vint w64 n ∷ [], tt))) (WpFn 𝓤 H C Λ code.function (v ∷ vint w64 n ∷ []) Post)
     walk le fits is =
-        qed W (‵ ftrue ∷ ‵ (owns (Array R 4 ∷ usize ∷ []) (infos, (n, tt)) (v ∷ [], (vint w64 n ∷ [], tt))) ∷ []) ∵ enter ! C Λ code.function (v ∷ vint w64 n ∷ []) _ $
+        qed W (‵ ftrue ∷ ‵ (owns (Array R 2 ∷ usize ∷ []) (infos, (n, tt)) (v ∷ [], (vint w64 n ∷ [], tt))) ∷ []) ∵ enter ! C Λ code.function (v ∷ vint w64 n ∷ []) _ $
         alloc1 ! (λ l₀. alloc1 ! (λ l₁. alloc1 ! (λ l₂. alloc1 ! (λ l₃. alloc1 ! (λ l₄. alloc1 ! (λ l₅. alloc0 ! $ params1 ! $
         pass1 ! (init ! 8 refl typed) $ pass1 ! (init ! 6 refl (tt, record { fits = fits })) $ pass0 ! $
         -- [room for _5; …; room for _4; …; room for _3 at 4; …; _2 at 6; …; _1 at 8; …; room for _0 at 10; …; true; what infos and n own]
@@ -120,45 +120,45 @@ module _ {M : Type 1} (𝓤 : URA M) (H : Heap 𝓤) (A : Atoms 𝓤) (W : Given
         assigns ! (agg ! (and-then ! (load ! (from ! (stop !)) (look ! 2 refl)) (and-then ! (load ! (from ! (stop !)) (look ! 6 refl)) (no-more !)))) (from ! (stop !))
         (init ! 0 refl (tt, (tt, (record { fits = fits }, tt)))) $
         lft-new ! tt (λ α. move ! (14 ∷ []) $ fsplit ! $ move ! (7 ∷ 0 ∷ []) $
-        use2 W (later (some (λ (γ : GName). ‵ (Held 𝓤 H A W R 4 l₃ infos n (α ∷ []) γ) ⊛ ‵ (Owed 𝓤 H A W R 4 l₃ infos n (α ∷ [])))))
-        (lends-front 𝓤 H A W R 4 l₃ infos n (α ∷ []) v tt room (length-take-le n infos (rw long le))) $ await ! tt $ pick ! (λ γ. split ! $ move ! (3 ∷ 0 ∷ []) $
+        use2 W (later (some (λ (γ : GName). ‵ (Held 𝓤 H A W R 2 l₃ infos n (α ∷ []) γ) ⊛ ‵ (Owed 𝓤 H A W R 2 l₃ infos n (α ∷ [])))))
+        (lends-front 𝓤 H A W R 2 l₃ infos n (α ∷ []) v tt room (length-take-le n infos (rw long le))) $ await ! tt $ pick ! (λ γ. split ! $ move ! (3 ∷ 0 ∷ []) $
         use2 W (raw (StaticC 𝓤 H A mem run .pre (to-static (α ∷ []) l₃ γ))) (goes-static (α ∷ []) l₃ γ) $
         -- [what `record_static` asks; what the lender keeps; what n owns; _5 at 3; …]
         calls-at ! fm (StaticC 𝓤 H A mem run) known (to-static (α ∷ []) l₃ γ) (and-then ! (load ! (from ! (stop !)) (look ! 3 refl)) (no-more !)) (λ u.
         use1 W (later (some (λ (r : InfoAnswer). ((‵ (flft (α ∷ []) fullShare) ⊛ ‵ ftrue) ⊛ ‵ (Z .own r (u ∷ [])))
-        ⊛ raw (ensured 𝓤 H A static.ended (static.clauses 𝓤 H A mem run) ((α ∷ []), tt) (front 𝓤 H A W R 4 l₃ infos n γ, tt) tt r)))) (id⊢ 𝓤 _) $ await ! tt $ pick ! (λ r.
+        ⊛ raw (ensured 𝓤 H A static.ended (static.clauses 𝓤 H A mem run) ((α ∷ []), tt) (front 𝓤 H A W R 2 l₃ infos n γ, tt) tt r)))) (id⊢ 𝓤 _) $ await ! tt $ pick ! (λ r.
         split ! $ move ! (1 ∷ []) $ use1 W (raw (fact 𝓤 (Recorded (take n infos) r))) (static-said (α ∷ []) l₃ γ r) $ heard ! (Recorded (take n infos) r) (λ e.
         split ! $ move ! (1 ∷ []) $ peeks ! Z (Is Z) (shows 𝓤 H A Z) r (u ∷ []) (λ is′.
         -- [the answer; the token; what the lender keeps; what n owns; _5 at 4; …; _4 at 6; …; _3's end at 8; _2 at 9; …; _1 at 11; …; room for _0 at 13; …]
         land ! (from ! (stop !)) (init ! 13 refl (z-typed r u is′)) $
         move ! (1 ∷ []) $ split ! $ lft-end ! tt $ move ! (0 ∷ 3 ∷ []) $
-        use2 W (later (‵ (froom (tyArray T′.mir 4) l₃ 0))) (front-back 𝓤 H A W R 4 l₃ infos n (α ∷ []) long) $ await ! tt $
+        use2 W (later (‵ (froom (tyArray T′.mir 2) l₃ 0))) (front-back 𝓤 H A W R 2 l₃ infos n (α ∷ []) long) $ await ! tt $
         -- [room for _3; true; the answer; what n owns; _5 at 4; …]
         returns ! (look ! 13 refl) $ forget ! 4 refl $ forget ! 6 refl $ forget ! 9 refl $ forget ! 11 refl $ forget ! 13 refl $
         move ! (13 ∷ 14 ∷ []) $ free1 ! $ move ! (11 ∷ 12 ∷ []) $ free1 ! $ move ! (9 ∷ 10 ∷ []) $ free1 ! $ move ! (0 ∷ 8 ∷ []) $ free1 ! $
         move ! (5 ∷ 6 ∷ []) $ free1 ! $ move ! (3 ∷ 4 ∷ []) $ free1 ! $ free0 ! $ keep ! (1 ∷ []) $ by ! (exits r u e)))))))))))))
       where
-        long : length infos ≡ 4
+        long : length infos ≡ 2
         long = is .1 .0 .1
 
         room : Room R n
         room = (fits, omega (arith, le))
 
-        typed : Holds (hasTy (tyArray T′.mir 4) v) × WT v
-        typed = array-lawful 𝓤 H A W R (LL.lawful T.the-type T′.the-laws 𝓤 H A W) 4 .typed infos (v ∷ []) is .0
+        typed : Holds (hasTy (tyArray T′.mir 2) v) × WT v
+        typed = array-lawful 𝓤 H A W R (LL.lawful T.the-type T′.the-laws 𝓤 H A W) 2 .typed infos (v ∷ []) is .0
 
 module _ {M : Type 1} (𝓤 : URA M) (H : Heap 𝓤) (A : Atoms 𝓤) (W : Given 𝓤 H A) (mem : Memory → SProp 𝓤) (run : Routine → Fun 𝓤) (𝓣 : Tables 𝓤 H)
     (known : Triple 𝓤 (𝓣 .C #static) (StaticC 𝓤 H A mem run)) where
   lent-record-walks : Walks 𝓤 H A total.ended stayed (WpFn 𝓤 H (𝓣 .C) (𝓣 .Λ) code.function) (total.clauses 𝓤 H A mem run)
   lent-record-walks = walked 𝓤 H A total.ended stayed (total.clauses 𝓤 H A mem run) (WpFn 𝓤 H (𝓣 .C) (𝓣 .Λ) code.function)
       (λ κs. (array-vals (LL.vals T.the-type T′.the-laws), (uint-vals w64, tt)))
-      (λ κs. (array-tells R (LL.vals T.the-type T′.the-laws) (LL.tells T.the-type T′.the-laws) 4, (uint-tells w64, tt)))
-      (λ κs qs bounds a g are. needs 𝓤 (a .1 .0 ≤ 4) _ (λ le.
+      (λ κs. (array-tells R (LL.vals T.the-type T′.the-laws) (LL.tells T.the-type T′.the-laws) 2, (uint-tells w64, tt)))
+      (λ κs qs bounds a g are. needs 𝓤 (a .1 .0 ≤ 2) _ (λ le.
       walk 𝓤 H A W mem run (a .0) (a .1 .0) _ (𝓣 .C) (𝓣 .Λ) (fmOf 𝓤 H (W .laws) 𝓣) known le (are .1 .0 .1) (are .0)))
 
   lent-record-meets : Meets 𝓤 H A total.signature (WpFn 𝓤 H (𝓣 .C) (𝓣 .Λ) code.function) (total.spec 𝓤 H A mem run)
   lent-record-meets = walk-meets 𝓤 H A total.ended stayed W
-      (goes-dropped 𝓤 H A W 0 (arrayOf (plain (λ _. R)) 4) yes (λ κs x f. refl), (goes-dropped 𝓤 H A W 0 (plain (λ _. usize)) yes (λ κs x f. refl), tt))
+      (goes-dropped 𝓤 H A W 0 (arrayOf (plain (λ _. R)) 2) yes (λ κs x f. refl), (goes-dropped 𝓤 H A W 0 (plain (λ _. usize)) yes (λ κs x f. refl), tt))
       (total.clauses 𝓤 H A mem run) (WpFn 𝓤 H (𝓣 .C) (𝓣 .Λ) code.function) (WpFn-mono 𝓤 H (W .laws) 𝓣 code.function) lent-record-walks
 
 pub lent-record-spec : {M : Type 1} → stated.statement M

@@ -16,8 +16,8 @@ use borrow.Fn.PlainCycle.{Measures, is, falls, and}
 use Rattle.host.proofs.table_bytes.lampughjata_placement_bytes.Reads as lampughjata-placement-bytes
 use Rattle.host.proofs.table_bytes.lampughjata_placement_bytes.Kinds as lampughjata-placement-bytes-kinds
 use Rattle.host.proofs.table_bytes.+lampughjata_placement_bytes.Lts-lampughjata_placement_bytes as lampughjata-placement-bytes-lts
-use Rattle.host.proofs.table_bytes.place_long.Reads as place-long-reads
-use Rattle.host.proofs.table_bytes.place_short.Reads as place-short-reads
+use Rattle.host.proofs.table_bytes.place_whole.Reads as place-whole-reads
+use Rattle.host.proofs.table_bytes.place_picked.Reads as place-picked-reads
 use Rattle.host.proofs.table_bytes.+lampughjata_placement_bytes.{statement}
 use Rattle.host.proofs.table_bytes.+lampughjata_placement_bytes.Tie.{close}
 
@@ -44,10 +44,10 @@ lampughjata-placement-bytes-slice-aggregate-lampughjata-placement-bytes :
     (t : ℕ) → lampughjata-placement-bytes-lts.Need-slice-aggregate-lampughjata-placement-bytes (
       lampughjata-placement-bytes-below t,
       lampughjata-placement-bytes.Post,
-      place-long-reads.Asked,
-      place-long-reads.Learnt,
-      place-short-reads.Asked,
-      place-short-reads.Learnt,
+      place-whole-reads.Asked,
+      place-whole-reads.Learnt,
+      place-picked-reads.Asked,
+      place-picked-reads.Learnt,
     ) (lampughjata-placement-bytes-at t) lampughjata-placement-bytes.Post
 lampughjata-placement-bytes-slice-aggregate-lampughjata-placement-bytes t c = sym (length-take-le 65536 (c .before .before .before .before .before .args .table .now) (search needs))
 
@@ -55,10 +55,10 @@ lampughjata-placement-bytes-lampughjata-placement-bytes-requires :
     (t : ℕ) → lampughjata-placement-bytes-lts.Need-lampughjata-placement-bytes-requires (
       lampughjata-placement-bytes-below t,
       lampughjata-placement-bytes.Post,
-      place-long-reads.Asked,
-      place-long-reads.Learnt,
-      place-short-reads.Asked,
-      place-short-reads.Learnt,
+      place-whole-reads.Asked,
+      place-whole-reads.Learnt,
+      place-picked-reads.Asked,
+      place-picked-reads.Learnt,
     ) (lampughjata-placement-bytes-at t) lampughjata-placement-bytes.Post
 lampughjata-placement-bytes-lampughjata-placement-bytes-requires t c κs = (omega (arith, length-take 65536 (c .before .before .before .before .before .before .args .table .now), c .before .before .before .before .before .before .pre .0, c .before .before .if1 .taken), tt)
 
@@ -66,20 +66,20 @@ lampughjata-placement-bytes-same-length :
     (t : ℕ) → lampughjata-placement-bytes-lts.Need-same-length (
       lampughjata-placement-bytes-below t,
       lampughjata-placement-bytes.Post,
-      place-long-reads.Asked,
-      place-long-reads.Learnt,
-      place-short-reads.Asked,
-      place-short-reads.Learnt,
+      place-whole-reads.Asked,
+      place-whole-reads.Learnt,
+      place-picked-reads.Asked,
+      place-picked-reads.Learnt,
     ) (lampughjata-placement-bytes-at t) lampughjata-placement-bytes.Post
 lampughjata-placement-bytes-same-length t c = search needs
 
 lampughjata-placement-bytes-returns : (t : ℕ) → lampughjata-placement-bytes-lts.Need-returns (
   lampughjata-placement-bytes-below t,
   lampughjata-placement-bytes.Post,
-  place-long-reads.Asked,
-  place-long-reads.Learnt,
-  place-short-reads.Asked,
-  place-short-reads.Learnt,
+  place-whole-reads.Asked,
+  place-whole-reads.Learnt,
+  place-picked-reads.Asked,
+  place-picked-reads.Learnt,
 ) (lampughjata-placement-bytes-at t) lampughjata-placement-bytes.Post
 lampughjata-placement-bytes-returns t c =
     let a = c .before .before .before .before .before .before .before .before .before .args in
@@ -89,79 +89,79 @@ lampughjata-placement-bytes-returns t c =
       self .1 ∙ rw cut (ap (λ (ws : List ℕ). putWords 0 ws (now (a .offsets))) (offsets-cut (memoryAt (a .memory)) (wholeWords (now (a .table))) (a .rows) (wholeWords (now (a .references))) (wholeWords (now (a .offsets))))),
     )
 
-lampughjata-placement-bytes-place-long-requires :
-    (t : ℕ) → lampughjata-placement-bytes-lts.Need-place-long-requires (
+lampughjata-placement-bytes-place-whole-requires :
+    (t : ℕ) → lampughjata-placement-bytes-lts.Need-place-whole-requires (
       lampughjata-placement-bytes-below t,
       lampughjata-placement-bytes.Post,
-      place-long-reads.Asked,
-      place-long-reads.Learnt,
-      place-short-reads.Asked,
-      place-short-reads.Learnt,
+      place-whole-reads.Asked,
+      place-whole-reads.Learnt,
+      place-picked-reads.Asked,
+      place-picked-reads.Learnt,
     ) (lampughjata-placement-bytes-at t) lampughjata-placement-bytes.Post
-lampughjata-placement-bytes-place-long-requires t c κs = search needs
+lampughjata-placement-bytes-place-whole-requires t c κs = search needs
 
 lampughjata-placement-bytes-same-length-2 :
     (t : ℕ) → lampughjata-placement-bytes-lts.Need-same-length-2 (
       lampughjata-placement-bytes-below t,
       lampughjata-placement-bytes.Post,
-      place-long-reads.Asked,
-      place-long-reads.Learnt,
-      place-short-reads.Asked,
-      place-short-reads.Learnt,
+      place-whole-reads.Asked,
+      place-whole-reads.Learnt,
+      place-picked-reads.Asked,
+      place-picked-reads.Learnt,
     ) (lampughjata-placement-bytes-at t) lampughjata-placement-bytes.Post
 lampughjata-placement-bytes-same-length-2 t c = search needs
 
 lampughjata-placement-bytes-returns-2 : (t : ℕ) → lampughjata-placement-bytes-lts.Need-returns-2 (
   lampughjata-placement-bytes-below t,
   lampughjata-placement-bytes.Post,
-  place-long-reads.Asked,
-  place-long-reads.Learnt,
-  place-short-reads.Asked,
-  place-short-reads.Learnt,
+  place-whole-reads.Asked,
+  place-whole-reads.Learnt,
+  place-picked-reads.Asked,
+  place-picked-reads.Learnt,
 ) (lampughjata-placement-bytes-at t) lampughjata-placement-bytes.Post
-lampughjata-placement-bytes-returns-2 t c = c .before .before .place-long .ensures
+lampughjata-placement-bytes-returns-2 t c = c .before .before .place-whole .ensures
 
-lampughjata-placement-bytes-place-short-requires :
-    (t : ℕ) → lampughjata-placement-bytes-lts.Need-place-short-requires (
+lampughjata-placement-bytes-place-picked-requires :
+    (t : ℕ) → lampughjata-placement-bytes-lts.Need-place-picked-requires (
       lampughjata-placement-bytes-below t,
       lampughjata-placement-bytes.Post,
-      place-long-reads.Asked,
-      place-long-reads.Learnt,
-      place-short-reads.Asked,
-      place-short-reads.Learnt,
+      place-whole-reads.Asked,
+      place-whole-reads.Learnt,
+      place-picked-reads.Asked,
+      place-picked-reads.Learnt,
     ) (lampughjata-placement-bytes-at t) lampughjata-placement-bytes.Post
-lampughjata-placement-bytes-place-short-requires t c κs = search needs
+lampughjata-placement-bytes-place-picked-requires t c κs = search needs
 
 lampughjata-placement-bytes-same-length-3 :
     (t : ℕ) → lampughjata-placement-bytes-lts.Need-same-length-3 (
       lampughjata-placement-bytes-below t,
       lampughjata-placement-bytes.Post,
-      place-long-reads.Asked,
-      place-long-reads.Learnt,
-      place-short-reads.Asked,
-      place-short-reads.Learnt,
+      place-whole-reads.Asked,
+      place-whole-reads.Learnt,
+      place-picked-reads.Asked,
+      place-picked-reads.Learnt,
     ) (lampughjata-placement-bytes-at t) lampughjata-placement-bytes.Post
 lampughjata-placement-bytes-same-length-3 t c = search needs
 
 lampughjata-placement-bytes-returns-3 : (t : ℕ) → lampughjata-placement-bytes-lts.Need-returns-3 (
   lampughjata-placement-bytes-below t,
   lampughjata-placement-bytes.Post,
-  place-long-reads.Asked,
-  place-long-reads.Learnt,
-  place-short-reads.Asked,
-  place-short-reads.Learnt,
+  place-whole-reads.Asked,
+  place-whole-reads.Learnt,
+  place-picked-reads.Asked,
+  place-picked-reads.Learnt,
 ) (lampughjata-placement-bytes-at t) lampughjata-placement-bytes.Post
-lampughjata-placement-bytes-returns-3 t c = c .before .before .place-short .ensures
+lampughjata-placement-bytes-returns-3 t c = c .before .before .place-picked .ensures
 
 pub +lampughjata-placement-bytes-spec : {M : Type 1} → statement M
 +lampughjata-placement-bytes-spec =
     close μ-lampughjata-placement-bytes λ t. lampughjata-placement-bytes-lts.spec (
       lampughjata-placement-bytes-below t,
       lampughjata-placement-bytes.Post,
-      place-long-reads.Asked,
-      place-long-reads.Learnt,
-      place-short-reads.Asked,
-      place-short-reads.Learnt,
+      place-whole-reads.Asked,
+      place-whole-reads.Learnt,
+      place-picked-reads.Asked,
+      place-picked-reads.Learnt,
     )
     (lampughjata-placement-bytes-at t)
     lampughjata-placement-bytes.Post
@@ -169,9 +169,9 @@ pub +lampughjata-placement-bytes-spec : {M : Type 1} → statement M
     (lampughjata-placement-bytes-lampughjata-placement-bytes-requires t)
     (lampughjata-placement-bytes-same-length t)
     (lampughjata-placement-bytes-returns t)
-    (lampughjata-placement-bytes-place-long-requires t)
+    (lampughjata-placement-bytes-place-whole-requires t)
     (lampughjata-placement-bytes-same-length-2 t)
     (lampughjata-placement-bytes-returns-2 t)
-    (lampughjata-placement-bytes-place-short-requires t)
+    (lampughjata-placement-bytes-place-picked-requires t)
     (lampughjata-placement-bytes-same-length-3 t)
     (lampughjata-placement-bytes-returns-3 t)

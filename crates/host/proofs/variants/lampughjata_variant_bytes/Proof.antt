@@ -11,8 +11,8 @@ cases-of-bytes-requires c κs = search needs
 variant-requires : tie.Need-variant-requires
 variant-requires c κs = search needs
 
-abi-number-requires : tie.Need-abi-number-requires
-abi-number-requires c κs = search needs
+info-number-requires : tie.Need-info-number-requires
+info-number-requires c κs = search needs
 
 new-requires : tie.Need-new-requires
 new-requires c κs = search needs
@@ -22,7 +22,7 @@ inner-number-requires c κs = search needs
 
 returns : tie.Need-returns
 returns c =
-    c .abi-number .ensures
+    c .info-number .ensures
     ∙ ap (leafNumber (λ a. chosen _ (abiWords a))) (c .before .variant .ensures)
     ∙ first-five _ _ (c .before .before .before .cases-of-bytes .ensures) (c .before .before .if1 .taken)
 
@@ -38,7 +38,7 @@ lampughjata-variant-bytes-spec =
     (tie.spec
     cases-of-bytes-requires
     variant-requires
-    abi-number-requires
+    info-number-requires
     new-requires
     inner-number-requires
     returns

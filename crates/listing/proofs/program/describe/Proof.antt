@@ -15,11 +15,11 @@ build-requires c κs = search needs
 slice-aggregate-put-rows : tie.Need-slice-aggregate-put-rows
 slice-aggregate-put-rows c = search needs
 
-rows-of-requires : tie.Need-rows-of-requires
-rows-of-requires c κs = search needs
+accepted-requires : tie.Need-accepted-requires
+accepted-requires c κs = search needs
 
 put-rows-requires : tie.Need-put-rows-requires
-put-rows-requires c κs = (rw (c .rows-of .ensures) (few-rows _ _ (c .before .before .before .before .build .ensures .0)), search needs)
+put-rows-requires c κs = (omega (arith, c .accepted .ensures, few-rows _ _ (c .before .before .before .before .build .ensures .0)), search needs)
 
 put-answer-requires : tie.Need-put-answer-requires
 put-answer-requires c κs = search needs
@@ -30,7 +30,7 @@ same-length c = search needs
 returns : tie.Need-returns
 returns c =
     let b = c .before .before .before .before .before .before .before .before .before .before .before .build in
-    let e = description-told _ _ (b .ensures .0) (b .ensures .1) (c .before .before .before .before .before .before .before .rows-of .ensures) (search needs) in
+    let e = description-told _ _ (b .ensures .0) (b .ensures .1) (c .before .before .before .before .before .before .before .accepted .ensures) (search needs) in
     puts-as e (omega arith) (puts-then (c .before .before .before .before .before .before .put-rows .ensures) (c .before .before .put-answer .ensures))
 
 pub describe-spec : {M : Type 1} → statement M
@@ -40,7 +40,7 @@ describe-spec =
     slice-aggregate-build
     build-requires
     slice-aggregate-put-rows
-    rows-of-requires
+    accepted-requires
     put-rows-requires
     put-answer-requires
     same-length

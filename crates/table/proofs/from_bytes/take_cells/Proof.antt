@@ -2,7 +2,7 @@
 use denote.Ref.{now}
 use mathlib.Core.Path.{_≡_, refl, sym, _∙_}
 use mathlib.Core.List.{List}
-use Prim.Native.Nat.{ℕ, _+_, _-_, _≤_}
+use Prim.Native.Nat.{ℕ, _+_, _-_, _/_, _≤_}
 use native.Mathlib.Omega.{arith}
 use lib.ListN.{length, getD, drop, length-set}
 use Rattle.canon.specs.Table.{cell, cellsFrom, putFrom}
@@ -34,22 +34,26 @@ place-requires c κs = omega arith
 place-requires-2 : tie.Need-place-requires-2 Inv-loop μ-loop
 place-requires-2 c κs = omega arith
 
-word-at-requires : tie.Need-word-at-requires Inv-loop μ-loop
-word-at-requires c κs = tt
+whole-word-requires : tie.Need-whole-word-requires Inv-loop μ-loop
+whole-word-requires c κs =
+    let a = c .before .before .before .before .before .before .args in
+    let l = c .before .before .before .loop in
+    let p = c .before .before .before .before .before .before .pre in
+    omega (arith, c .before .place .ensures, place-fits (a .bytes-room) (a .from) (l .k) (length (now (a .bytes)) / 4) (p .0) (omega arith) (p .2))
 
 mul-table : tie.Need-mul-table Inv-loop μ-loop
 mul-table c =
     let a = c .before .before .before .before .before .before .before .args in
     let l = c .before .before .before .before .loop in
     let p = c .before .before .before .before .before .before .before .pre in
-    omega (arith, c .before .place2 .ensures, place-fits (a .room) (a .to) (l .k) (length (l .table)) (p .2) (omega arith) (omega (arith, p .4)))
+    omega (arith, c .before .place2 .ensures, place-fits (a .room) (a .to) (l .k) (length (l .table)) (p .3) (omega arith) (omega (arith, p .5)))
 
 slice-write-table : tie.Need-slice-write-table Inv-loop μ-loop
 slice-write-table c =
     let a = c .before .before .before .before .before .before .before .args in
     let l = c .before .before .before .before .loop in
     let p = c .before .before .before .before .before .before .before .pre in
-    omega (arith, c .before .place2 .ensures, place-fits (a .room) (a .to) (l .k) (length (l .table)) (p .2) (omega arith) (omega (arith, p .4)))
+    omega (arith, c .before .place2 .ensures, place-fits (a .room) (a .to) (l .k) (length (l .table)) (p .3) (omega arith) (omega (arith, p .5)))
 
 add-k : tie.Need-add-k Inv-loop μ-loop
 add-k c = omega arith
@@ -62,7 +66,7 @@ loop-again c =
     let a = c .before .before .before .before .before .before .before .args in
     let l = c .before .before .before .before .loop in
     let ws = taken (now (a .bytes)) (a .bytes-room) (a .from) in
-    let got : c .word-at .result ≡ getD ws (l .k) 0 = unfold cell in rw (c .word-at .ensures, c .before .before .place .ensures, cell-of (a .bytes-room) (wholeWords (now (a .bytes))) (a .from) (l .k) (omega arith)) in (
+    let got : c .whole-word .result ≡ getD ws (l .k) 0 = unfold cell in rw (c .whole-word .ensures, c .before .before .place .ensures, cell-of (a .bytes-room) (wholeWords (now (a .bytes))) (a .from) (l .k) (omega arith)) in (
       omega arith,
       simp length-set (l .inv .1),
       rw (c .before .place2 .ensures, got)
@@ -88,7 +92,7 @@ take-cells-spec =
     loop-holds
     place-requires
     place-requires-2
-    word-at-requires
+    whole-word-requires
     mul-table
     slice-write-table
     add-k

@@ -19,8 +19,8 @@ cast-at c = search needs
 row-words-requires : tie.Need-row-words-requires
 row-words-requires c κs = search needs
 
-put-words-requires : tie.Need-put-words-requires
-put-words-requires c κs = search needs
+put-cells-requires : tie.Need-put-cells-requires
+put-cells-requires c κs = search needs
 
 same-length : tie.Need-same-length
 same-length c = search needs
@@ -30,7 +30,7 @@ returns c =
     let a = c .before .before .before .before .before .before .before .before .before .args in
     let room = c .before .before .before .before .before .before .before .capacity in
     rw (put-there (now (a .table)) (room .result) (a .index .0) (room .ensures .0) (rowMeans (a .row)) (c .before .before .before .before .before .if1 .taken))
-    (c .before .before .put-words .ensures ∙ ap (λ (ws : List ℕ). putFrom (room .result) (a .index .0) 0 ws (now (a .table))) (c .before .before .before .row-words .ensures))
+    (c .before .before .put-cells .ensures ∙ ap (λ (ws : List ℕ). putFrom (room .result) (a .index .0) 0 ws (now (a .table))) (c .before .before .before .row-words .ensures))
 
 returns-2 : tie.Need-returns-2
 returns-2 c =
@@ -45,7 +45,7 @@ put-row-spec =
     capacity-requires
     cast-at
     row-words-requires
-    put-words-requires
+    put-cells-requires
     same-length
     returns
     returns-2)

@@ -13,14 +13,14 @@ use Rattle.table.proofs.to_bytes.give_cells.Statement.{statement}
 use Rattle.table.proofs.to_bytes.give_cells.Tie as tie
 
 abbrev Inv-loop : tie.InvT-loop
-Inv-loop table from bytes₀ to row k₀ bytes k =
+Inv-loop table room bytes₀ bytes-room row k₀ bytes k =
     (k ≤ 16)
     × (length bytes ≡ length bytes₀)
     × ((i : ℕ) → getD bytes i 0 < 256)
-    × (leftInto to row (cellsFrom from table row 0 16) k bytes ≡ leftInto to row (cellsFrom from table row 0 16) 0 bytes₀)
+    × (leftInto bytes-room row (cellsFrom room table row 0 16) k bytes ≡ leftInto bytes-room row (cellsFrom room table row 0 16) 0 bytes₀)
 
 abbrev μ-loop : tie.MeasureT-loop
-μ-loop table from bytes₀ to row k₀ bytes k = 16 - k
+μ-loop table room bytes₀ bytes-room row k₀ bytes k = 16 - k
 
 loop-holds : tie.Need-loop-holds Inv-loop μ-loop
 loop-holds c = (omega arith, refl, λ i. c .slice-known .given i .fits, refl)
@@ -48,12 +48,12 @@ loop-again c =
     let at = c .before .before .before .before .before .place in
     let word = c .before .before .before .cell in
     let put = c .before .before .put-word-at in
-    let ws = cellsFrom (a .from) (now (a .table)) (a .row) 0 16 in (
+    let ws = cellsFrom (a .room) (now (a .table)) (a .row) 0 16 in (
       omega arith,
       put .kept .0 ∙ l .inv .1,
       λ i. c .slice-known2 .given i .fits,
-      give-turn (a .to) (a .row) ws (l .k) (l .k + 1) (word .result) (l .bytes) (put .last .0) (l .inv .2) (omega arith) (omega arith) (omega arith)
-          (word .ensures ∙ ap (cell (a .from) (now (a .table)) (a .row)) (sym (zero-add (l .k))) ∙ sym (cells-at (a .from) (now (a .table)) (a .row) 0 16 (l .k) (omega arith)))
+      give-turn (a .bytes-room) (a .row) ws (l .k) (l .k + 1) (word .result) (l .bytes) (put .last .0) (l .inv .2) (omega arith) (omega arith) (omega arith)
+          (word .ensures ∙ ap (cell (a .room) (now (a .table)) (a .row)) (sym (zero-add (l .k))) ∙ sym (cells-at (a .room) (now (a .table)) (a .row) 0 16 (l .k) (omega arith)))
           (put .ensures ∙ ap (λ (p : ℕ). putWords 0 (set (wholeWords (l .bytes)) p (word .result)) (l .bytes)) (at .ensures))
           ∙ l .inv .3,
     )
@@ -66,7 +66,7 @@ unfolding cellsFrom
 returns c =
     let a = c .before .before .before .before .args in
     let l = c .before .loop in
-    sym (give-end (a .to) (a .row) (cellsFrom (a .from) (now (a .table)) (a .row) 0 16) (l .k) (l .bytes) (l .inv .2) (omega arith)) ∙ l .inv .3
+    sym (give-end (a .bytes-room) (a .row) (cellsFrom (a .room) (now (a .table)) (a .row) 0 16) (l .k) (l .bytes) (l .inv .2) (omega arith)) ∙ l .inv .3
 
 pub give-cells-spec : {M : Type 1} → statement M
 give-cells-spec =

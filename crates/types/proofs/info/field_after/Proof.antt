@@ -4,6 +4,7 @@ use Prim.Native.Nat.{_+_, _≤_}
 use native.Mathlib.Omega.{arith}
 use borrow.Author.Tests.{ltb-false}
 use Rattle.canon.specs.Layout.{largestNumber}
+use Rattle.canon.proofs.Rounding.{alignment-tested}
 use Rattle.types.specs.Means.{layoutMeans}
 use Rattle.types.proofs.ExtentLaws.{member-fits}
 use Rattle.types.proofs.AnswerLaws.{field-step}
@@ -30,7 +31,7 @@ returns : tie.Need-returns
 returns c =
     let a = c .before .before .before .before .args in
     simp (
-      field-step (a .end) (layoutMeans (a .field)) (c .before .before .before .before .pre) (omega arith),
+      field-step (a .end) (layoutMeans (a .field)) (alignment-tested _ (c .before .before .before .before .pre)) (omega arith),
       ← c .before .before .before .member .ensures,
       ← c .before .is-large .ensures,
       c .if1 .taken,
@@ -46,7 +47,7 @@ returns-2 : tie.Need-returns-2
 returns-2 c =
     let a = c .before .before .before .before .before .before .args in
     simp (
-      field-step (a .end) (layoutMeans (a .field)) (c .before .before .before .before .before .before .pre) (omega arith),
+      field-step (a .end) (layoutMeans (a .field)) (alignment-tested _ (c .before .before .before .before .before .before .pre)) (omega arith),
       ← c .before .before .before .before .before .member .ensures,
       ← c .before .before .before .is-large .ensures,
       c .before .before .if1 .left,

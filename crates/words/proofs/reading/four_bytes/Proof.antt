@@ -1,4 +1,4 @@
--- Each byte as wide as a word: the sum is the word's definition.
+-- The four bytes make the word by its definition.
 use Rattle.words.specs.Words.{wordAt}
 use borrow.Author.Needs.{needs}
 use Rattle.words.proofs.reading.four_bytes.Statement.{statement}
@@ -7,86 +7,45 @@ use Rattle.words.proofs.reading.four_bytes.Tie as tie
 mul-at : tie.Need-mul-at
 mul-at c = search needs
 
-shared-slice-read-wide : tie.Need-shared-slice-read-wide
-shared-slice-read-wide c = search needs
+shared-slice-read-from-le-bytes : tie.Need-shared-slice-read-from-le-bytes
+shared-slice-read-from-le-bytes c = search needs
 
-wide-requires : tie.Need-wide-requires
-wide-requires c κs = search needs
+add-from-le-bytes : tie.Need-add-from-le-bytes
+add-from-le-bytes c = search needs
 
-add-wide : tie.Need-add-wide
-add-wide c = search needs
+shared-slice-read-from-le-bytes-2 : tie.Need-shared-slice-read-from-le-bytes-2
+shared-slice-read-from-le-bytes-2 c = search needs
 
-shared-slice-read-wide-2 : tie.Need-shared-slice-read-wide-2
-shared-slice-read-wide-2 c = search needs
+add-from-le-bytes-2 : tie.Need-add-from-le-bytes-2
+add-from-le-bytes-2 c = search needs
 
-wide-requires-2 : tie.Need-wide-requires-2
-wide-requires-2 c κs = search needs
+shared-slice-read-from-le-bytes-3 : tie.Need-shared-slice-read-from-le-bytes-3
+shared-slice-read-from-le-bytes-3 c = search needs
 
-add-wide-2 : tie.Need-add-wide-2
-add-wide-2 c = search needs
+add-from-le-bytes-3 : tie.Need-add-from-le-bytes-3
+add-from-le-bytes-3 c = search needs
 
-shared-slice-read-wide-3 : tie.Need-shared-slice-read-wide-3
-shared-slice-read-wide-3 c = search needs
+shared-slice-read-from-le-bytes-4 : tie.Need-shared-slice-read-from-le-bytes-4
+shared-slice-read-from-le-bytes-4 c = search needs
 
-wide-requires-3 : tie.Need-wide-requires-3
-wide-requires-3 c κs = search needs
-
-add-wide-3 : tie.Need-add-wide-3
-add-wide-3 c = search needs
-
-shared-slice-read-wide-4 : tie.Need-shared-slice-read-wide-4
-shared-slice-read-wide-4 c = search needs
-
-wide-requires-4 : tie.Need-wide-requires-4
-wide-requires-4 c κs = search needs
-
-mul-result : tie.Need-mul-result
-mul-result c = search needs
-
-add-result : tie.Need-add-result
-add-result c = search needs
-
-mul-result-2 : tie.Need-mul-result-2
-mul-result-2 c = search needs
-
-add-result-2 : tie.Need-add-result-2
-add-result-2 c = search needs
-
-mul-result-3 : tie.Need-mul-result-3
-mul-result-3 c = search needs
-
-add-result-3 : tie.Need-add-result-3
-add-result-3 c = search needs
+from-le-bytes-requires : tie.Need-from-le-bytes-requires
+from-le-bytes-requires c κs = search needs
 
 returns : tie.Need-returns
 unfolding wordAt
-returns c = simp (
-  c .wide4 .ensures .0,
-  c .before .before .wide3 .ensures .0,
-  c .before .before .before .before .wide2 .ensures .0,
-  c .before .before .before .before .before .before .wide .ensures .0,
-)
+returns c = c .from-le-bytes .ensures
 
 pub four-bytes-spec : {M : Type 1} → statement M
 four-bytes-spec =
     tie.close
     (tie.spec
     mul-at
-    shared-slice-read-wide
-    wide-requires
-    add-wide
-    shared-slice-read-wide-2
-    wide-requires-2
-    add-wide-2
-    shared-slice-read-wide-3
-    wide-requires-3
-    add-wide-3
-    shared-slice-read-wide-4
-    wide-requires-4
-    mul-result
-    add-result
-    mul-result-2
-    add-result-2
-    mul-result-3
-    add-result-3
+    shared-slice-read-from-le-bytes
+    add-from-le-bytes
+    shared-slice-read-from-le-bytes-2
+    add-from-le-bytes-2
+    shared-slice-read-from-le-bytes-3
+    add-from-le-bytes-3
+    shared-slice-read-from-le-bytes-4
+    from-le-bytes-requires
     returns)

@@ -16,8 +16,8 @@ Inv-loop bytes words₀ n k₀ words k = (k ≤ n) × (length words ≡ length w
 abbrev μ-loop : tie.MeasureT-loop
 μ-loop bytes words₀ n k₀ words k = n - k
 
-lesser-requires : tie.Need-lesser-requires Inv-loop μ-loop
-lesser-requires c κs = search needs
+min-requires : tie.Need-min-requires Inv-loop μ-loop
+min-requires c κs = search needs
 
 loop-holds : tie.Need-loop-holds Inv-loop μ-loop
 loop-holds c = (search needs, refl, refl)
@@ -46,7 +46,7 @@ same-length c = search needs
 returns : tie.Need-returns Inv-loop μ-loop
 returns c =
     let l = c .before .loop in
-    (c .before .before .lesser .ensures, rw (← le-antisymm (l .inv .0) (c .loop-test .left)) (l .inv .2))
+    (c .before .before .min .ensures, rw (← le-antisymm (l .inv .0) (c .loop-test .left)) (l .inv .2))
 
 pub words-of-spec : {M : Type 1} → statement M
 words-of-spec =
@@ -54,7 +54,7 @@ words-of-spec =
     (tie.spec
     Inv-loop
     μ-loop
-    lesser-requires
+    min-requires
     loop-holds
     four-bytes-requires
     mul-words

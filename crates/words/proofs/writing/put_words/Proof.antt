@@ -17,8 +17,8 @@ Inv-loop words bytes₀ n k₀ bytes k =
 abbrev μ-loop : tie.MeasureT-loop
 μ-loop words bytes₀ n k₀ bytes k = n - k
 
-lesser-requires : tie.Need-lesser-requires Inv-loop μ-loop
-lesser-requires c κs = search needs
+min-requires : tie.Need-min-requires Inv-loop μ-loop
+min-requires c κs = search needs
 
 loop-holds : tie.Need-loop-holds Inv-loop μ-loop
 loop-holds c = (search needs, refl, refl)
@@ -42,7 +42,7 @@ loop-again : tie.Need-loop-again Inv-loop μ-loop
 loop-again c =
     let l = c .before .before .before .before .before .before .loop in
     let e = c .before .before .put-word .ensures in
-    let h = rw (c .before .before .before .before .before .before .before .lesser .ensures) at (c .before .before .before .before .before .loop-test .taken) in
+    let h = rw (c .before .before .before .before .before .before .before .min .ensures) at (c .before .before .before .before .before .loop-test .taken) in
     (search needs, ap length e ∙ length-put _ _ _ ∙ l .inv .1, rw (e, write-turn _ _ _ _ h) (l .inv .2))
 
 same-length : tie.Need-same-length Inv-loop μ-loop
@@ -50,7 +50,7 @@ same-length c = search needs
 
 returns : tie.Need-returns Inv-loop μ-loop
 returns c =
-    let h = rw (c .before .before .lesser .ensures) at (c .loop-test .left) in
+    let h = rw (c .before .before .min .ensures) at (c .loop-test .left) in
     rw (write-end _ _ _ _ h) at (c .before .loop .inv .2)
 
 pub put-words-spec : {M : Type 1} → statement M
@@ -59,7 +59,7 @@ put-words-spec =
     (tie.spec
     Inv-loop
     μ-loop
-    lesser-requires
+    min-requires
     loop-holds
     mul-put-word
     shared-slice-read-put-word

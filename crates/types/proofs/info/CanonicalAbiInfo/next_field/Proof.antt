@@ -1,7 +1,7 @@
 -- A good info is aligned, so its field starts where canon starts it.
 use mathlib.Core.Path.{sym, _∙_, ap}
 use Rattle.canon.specs.Layout.{Layout}
-use Rattle.canon.proofs.Rounding.{abi-tested}
+use Rattle.canon.proofs.Rounding.{alignment-test, abi-tested}
 use Rattle.types.specs.Leaves.{given, nextField}
 use Rattle.types.specs.Means.{memoryOf, abiMeans}
 use borrow.Author.Needs.{needs}
@@ -20,7 +20,8 @@ in-memory-requires c κs = search needs
 field-after-requires : tie.Need-field-after-requires
 field-after-requires c κs =
     rw (ap (λ (f : Layout). f .align) (c .in-memory .ensures), c .before .layouts .ensures)
-    (abi-tested (abiMeans (c .before .before .before .before .args .self)) (sym (c .before .before .before .is-good .ensures) ∙ c .before .before .if1 .taken) (memoryOf (c .before .before .before .before .args .memory)))
+    (alignment-test
+    (abi-tested (abiMeans (c .before .before .before .before .args .self)) (sym (c .before .before .before .is-good .ensures) ∙ c .before .before .if1 .taken) (memoryOf (c .before .before .before .before .args .memory))))
 
 returns : tie.Need-returns
 unfolding nextField given

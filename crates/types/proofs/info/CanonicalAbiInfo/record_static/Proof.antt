@@ -113,7 +113,7 @@ use denote.Triple.Clauses.{ensured, lasts}
 use denote.Exit.{yes}
 use Rattle.types.specs.Means.{abiMeans, infoAnswerMeans}
 use Rattle.types.specs.Leaves.{recordAnswer}
-use Rattle.types.specs.States.{Fields, recordMeans, noFields, addField, closeFields}
+use Rattle.types.specs.States.{FieldState, recordMeans, noFields, addField, closeFields}
 use Rattle.types.specs.declared.info.CanonicalAbiInfo.{CanonicalAbiInfo}
 use Rattle.types.specs.declared.record.RecordState.{RecordState}
 use Rattle.types.specs.declared.info.InfoAnswer.{InfoAnswer}
@@ -362,7 +362,7 @@ module _ {M : Type 1} (𝓤 : URA M) (H : Heap 𝓤) (A : Atoms 𝓤) (W : Given
           within = add-one-le (in-range less);
           is = is′;
           so-far = e
-              ∙ ap (λ (a : Fields). addField a (abiMeans elem)) (s .so-far) ∙ after-next ys i past (in-range less);
+              ∙ ap (λ (a : FieldState). addField a (abiMeans elem)) (s .so-far) ∙ after-next ys i past (in-range less);
         }
 
     -- the loop, and what follows it

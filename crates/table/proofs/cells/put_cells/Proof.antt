@@ -5,8 +5,8 @@ use Prim.Native.Nat.{_+_, _-_, _≤_}
 use native.Mathlib.Omega.{arith}
 use Rattle.canon.specs.Table.{putFrom}
 use Rattle.canon.proofs.Cells.{place-fits, put-step, put-none}
-use Rattle.table.proofs.cells.put_words.Statement.{statement}
-use Rattle.table.proofs.cells.put_words.Tie as tie
+use Rattle.table.proofs.cells.put_cells.Statement.{statement}
+use Rattle.table.proofs.cells.put_cells.Tie as tie
 
 abbrev Inv-loop : tie.InvT-loop
 Inv-loop table₀ room row words k₀ table k =
@@ -63,8 +63,8 @@ returns c =
     let a = c .before .before .before .args in
     sym (put-none (a .room) (a .row) (c .before .loop .k) (a .t4) (c .before .loop .table) (omega arith)) ∙ c .before .loop .inv .2
 
-pub put-words-spec : {M : Type 1} → statement M
-put-words-spec =
+pub put-cells-spec : {M : Type 1} → statement M
+put-cells-spec =
     tie.close
     (tie.spec
     Inv-loop

@@ -8,8 +8,8 @@ use Rattle.words.specs.Words.{wholeWords}
 use Rattle.host.specs.Numbers.{memoryAt, answerNumber, placementNumber}
 use Rattle.host.proofs.Decoded.{front, offsets-put}
 use borrow.Author.Needs.{needs}
-use Rattle.host.proofs.table_bytes.place_long.Statement.{statement}
-use Rattle.host.proofs.table_bytes.place_long.Tie as tie
+use Rattle.host.proofs.table_bytes.place_whole.Statement.{statement}
+use Rattle.host.proofs.table_bytes.place_whole.Tie as tie
 
 slice-aggregate-words-of : tie.Need-slice-aggregate-words-of
 slice-aggregate-words-of c = search needs
@@ -69,8 +69,8 @@ returns c =
       into .ensures .1 .1 ∙ offsets-put _ (now (a .offsets)) (λ i. c .before .before .before .before .before .before .before .before .before .before .before .before .before .before .before .before .before .before .slice-known .given i .fits) (into .ensures .1 .0 .1 ∙ ap length out) (memoryAt (a .memory)) t (a .rows) ws (into .ensures .1 .0 .0 ∙ rw (rows, few, out)),
     )
 
-pub place-long-spec : {M : Type 1} → statement M
-place-long-spec =
+pub place-whole-spec : {M : Type 1} → statement M
+place-whole-spec =
     tie.close
     (tie.spec
     slice-aggregate-words-of

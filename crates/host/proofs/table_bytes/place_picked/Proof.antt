@@ -13,8 +13,8 @@ use Rattle.host.specs.Numbers.{memoryAt, answerNumber, placementNumber}
 use Rattle.host.proofs.ShortLists.{room-16, placing-missing, placement-alike, offsets-alike}
 use Rattle.host.proofs.Decoded.{front, front-put}
 use borrow.Author.Needs.{needs}
-use Rattle.host.proofs.table_bytes.place_short.Statement.{statement}
-use Rattle.host.proofs.table_bytes.place_short.Tie as tie
+use Rattle.host.proofs.table_bytes.place_picked.Statement.{statement}
+use Rattle.host.proofs.table_bytes.place_picked.Tie as tie
 
 no-rows-requires : tie.Need-no-rows-requires
 no-rows-requires c κs = search needs
@@ -84,8 +84,8 @@ returns-2 c =
           (offsets-alike _ t 16 (a .rows) (rw (picks .1 .1 .size) room-16) there _ _ ws (picks .1 .0) few (memoryAt (a .memory)) (wholeWords (now (a .offsets))) _ (into .ensures .1 .0 .0 ∙ rw out)),
     )
 
-pub place-short-spec : {M : Type 1} → statement M
-place-short-spec =
+pub place-picked-spec : {M : Type 1} → statement M
+place-picked-spec =
     tie.close
     (tie.spec
     no-rows-requires
