@@ -19,11 +19,11 @@ pub enum Refusal {
     BadRef = 4,
     /// A variant or enum of no case, more than 32 flags, a maximum above 16.
     BadCount = 5,
-    /// An offset or a size above 4294967295, in either memory.
+    /// An offset or a size above 4294967295: of a placement in its own memory, else in either.
     TooLarge = 6,
     /// The lent buffer is too short: for the next definition's row, or for the offsets.
     NoRoom = 7,
-    /// The table is shorter than its rows, or a row that was read is not well formed.
+    /// More than 1,024 rows, a table shorter than its rows, or a row that was read and is not well formed.
     BadRow = 8,
 }
 
@@ -62,7 +62,7 @@ impl fmt::Display for Refusal {
             Refusal::BadCount => "a bad count: no case, more than 32 flags, or a maximum above 16",
             Refusal::TooLarge => "an offset or a size is above 4294967295",
             Refusal::NoRoom => "the buffer has no room for the next row or for all offsets",
-            Refusal::BadRow => "the table is shorter than its rows, or a row is not well formed",
+            Refusal::BadRow => "more than 1024 rows, too short a table, or a row not well formed",
         })
     }
 }

@@ -84,7 +84,7 @@ pub struct Info {
     pub align32: u32,
     pub size64: u32,
     pub align64: u32,
-    /// How many core types it is flattened to; none if these are more than 16.
+    /// How many core types it is flattened to; none if these are more than 16, or a part has none.
     pub flat_count: Option<u8>,
     /// The core types over a 32-bit memory, empty if there is no count.
     pub flat32: CoreTypes,
@@ -108,7 +108,7 @@ impl Info {
         }
     }
 
-    /// The core types that the type is flattened to; none if these are more than 16.
+    /// The core types that the type is flattened to; none if these are more than 16, or a part has none.
     pub fn flat_types(&self, memory: Memory) -> Option<CoreTypes> {
         self.flat_count.map(|_| match memory {
             Memory::Memory32 => self.flat32,

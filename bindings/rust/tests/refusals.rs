@@ -142,7 +142,7 @@ fn a_placement_too_large_names_the_member() {
 #[test]
 fn tables_from_elsewhere_are_tested() {
     let flags = Reference::definition(0);
-    let says = "the table is shorter than its rows, or a row is not well formed (refusal 8 at \
+    let says = "more than 1024 rows, too short a table, or a row not well formed (refusal 8 at \
                 reference 0 or the whole)";
     let short = Table::from_words([0; 15], 1);
     assert_eq!(refused(short.type_of(flags)), at_reference(8, 0, says));
