@@ -19,6 +19,8 @@ use crate::member::recall;
 use crate::placed::Placed;
 use crate::read::no_table;
 use crate::read::too_many;
+use table::FIRST_DEFINITION;
+use table::MOST_ROWS;
 use table::MemberPosition;
 use types::Memory;
 use types::Refusal;
@@ -128,8 +130,8 @@ const SHORT: usize = 64;
 // More references than this are placed twice, over a memo.
 const STAGED: usize = 1024;
 
-// A memo has a word for each reference that a table can hold: 64, and one for each of 1,024 rows.
-const MEMO: usize = 1088;
+// A memo has a word for each reference up to the last row that a table can have.
+const MEMO: usize = FIRST_DEFINITION as usize + MOST_ROWS;
 
 fn place_short(
     memory: Memory,

@@ -15,163 +15,92 @@ use borrow.Fn.Kinds.{In}
 use borrow.Fn.PlainCycle.{Measures, is, falls, and}
 use Rattle.host.proofs.table_bytes.lampughjata_placement_bytes.Reads as lampughjata-placement-bytes
 use Rattle.host.proofs.table_bytes.lampughjata_placement_bytes.Kinds as lampughjata-placement-bytes-kinds
-use Rattle.host.proofs.table_bytes.+lampughjata_placement_bytes.Lts-lampughjata_placement_bytes as lampughjata-placement-bytes-lts
-use Rattle.host.proofs.table_bytes.place_whole.Reads as place-whole-reads
-use Rattle.host.proofs.table_bytes.place_picked.Reads as place-picked-reads
+use Rattle.host.proofs.table_bytes.+lampughjata_placement_bytes.Lts-lampughjata_placement_bytes as lts
+use Rattle.host.proofs.table_bytes.place_whole.Reads as place-whole
+use Rattle.host.proofs.table_bytes.place_picked.Reads as place-picked
 use Rattle.host.proofs.table_bytes.+lampughjata_placement_bytes.{statement}
 use Rattle.host.proofs.table_bytes.+lampughjata_placement_bytes.Tie.{close}
 
-abbrev μ-lampughjata-placement-bytes : Measures 3 lampughjata-placement-bytes-kinds.ps ℕ
-μ-lampughjata-placement-bytes κs a = length (a .1 .0 .now)
+abbrev μ : Measures 3 lampughjata-placement-bytes-kinds.ps ℕ
+μ κs a = length (a .1 .0 .now)
 
-abbrev lampughjata-placement-bytes-at : ℕ → In 3 lampughjata-placement-bytes-kinds.ps
-lampughjata-placement-bytes-at t =
+-- what it is given at the measure t, what a call of it asks below t, and what its calls say
+
+abbrev at : ℕ → In 3 lampughjata-placement-bytes-kinds.ps
+at t =
     and
     3
     lampughjata-placement-bytes-kinds.ps
-    (is 3 lampughjata-placement-bytes-kinds.ps μ-lampughjata-placement-bytes t)
+    (is 3 lampughjata-placement-bytes-kinds.ps μ t)
     lampughjata-placement-bytes.Pre
 
-abbrev lampughjata-placement-bytes-below : ℕ → In 3 lampughjata-placement-bytes-kinds.ps
-lampughjata-placement-bytes-below t =
+abbrev below : ℕ → In 3 lampughjata-placement-bytes-kinds.ps
+below t =
     and
     3
     lampughjata-placement-bytes-kinds.ps
-    (falls 3 lampughjata-placement-bytes-kinds.ps _<_ μ-lampughjata-placement-bytes t)
+    (falls 3 lampughjata-placement-bytes-kinds.ps _<_ μ t)
     lampughjata-placement-bytes.Pre
 
-lampughjata-placement-bytes-slice-aggregate-lampughjata-placement-bytes :
-    (t : ℕ) → lampughjata-placement-bytes-lts.Need-slice-aggregate-lampughjata-placement-bytes (
-      lampughjata-placement-bytes-below t,
-      lampughjata-placement-bytes.Post,
-      place-whole-reads.Asked,
-      place-whole-reads.Learnt,
-      place-picked-reads.Asked,
-      place-picked-reads.Learnt,
-    ) (lampughjata-placement-bytes-at t) lampughjata-placement-bytes.Post
-lampughjata-placement-bytes-slice-aggregate-lampughjata-placement-bytes t c = sym (length-take-le 65536 (c .before .before .before .before .before .args .table .now) (search needs))
-
-lampughjata-placement-bytes-lampughjata-placement-bytes-requires :
-    (t : ℕ) → lampughjata-placement-bytes-lts.Need-lampughjata-placement-bytes-requires (
-      lampughjata-placement-bytes-below t,
-      lampughjata-placement-bytes.Post,
-      place-whole-reads.Asked,
-      place-whole-reads.Learnt,
-      place-picked-reads.Asked,
-      place-picked-reads.Learnt,
-    ) (lampughjata-placement-bytes-at t) lampughjata-placement-bytes.Post
-lampughjata-placement-bytes-lampughjata-placement-bytes-requires t c κs = (omega (arith, length-take 65536 (c .before .before .before .before .before .before .args .table .now), c .before .before .before .before .before .before .pre .0, c .before .before .if1 .taken), tt)
-
-lampughjata-placement-bytes-same-length :
-    (t : ℕ) → lampughjata-placement-bytes-lts.Need-same-length (
-      lampughjata-placement-bytes-below t,
-      lampughjata-placement-bytes.Post,
-      place-whole-reads.Asked,
-      place-whole-reads.Learnt,
-      place-picked-reads.Asked,
-      place-picked-reads.Learnt,
-    ) (lampughjata-placement-bytes-at t) lampughjata-placement-bytes.Post
-lampughjata-placement-bytes-same-length t c = search needs
-
-lampughjata-placement-bytes-returns : (t : ℕ) → lampughjata-placement-bytes-lts.Need-returns (
-  lampughjata-placement-bytes-below t,
+abbrev calls : ℕ → lts.Claims
+calls t = (
+  below t,
   lampughjata-placement-bytes.Post,
-  place-whole-reads.Asked,
-  place-whole-reads.Learnt,
-  place-picked-reads.Asked,
-  place-picked-reads.Learnt,
-) (lampughjata-placement-bytes-at t) lampughjata-placement-bytes.Post
-lampughjata-placement-bytes-returns t c =
-    let a = c .before .before .before .before .before .before .before .before .before .args in
-    let self = c .before .before .lampughjata-placement-bytes .ensures in
-    let cut = whole-take 16384 (now (a .table)) in (
-      self .0 ∙ rw cut (ap (answerNumber placementNumber) (placement-cut (memoryAt (a .memory)) (wholeWords (now (a .table))) (a .rows) (wholeWords (now (a .references))) (length (wholeWords (now (a .offsets)))))),
-      self .1 ∙ rw cut (ap (λ (ws : List ℕ). putWords 0 ws (now (a .offsets))) (offsets-cut (memoryAt (a .memory)) (wholeWords (now (a .table))) (a .rows) (wholeWords (now (a .references))) (wholeWords (now (a .offsets))))),
-    )
+  place-whole.Asked,
+  place-whole.Learnt,
+  place-picked.Asked,
+  place-picked.Learnt,
+)
 
-lampughjata-placement-bytes-place-whole-requires :
-    (t : ℕ) → lampughjata-placement-bytes-lts.Need-place-whole-requires (
-      lampughjata-placement-bytes-below t,
-      lampughjata-placement-bytes.Post,
-      place-whole-reads.Asked,
-      place-whole-reads.Learnt,
-      place-picked-reads.Asked,
-      place-picked-reads.Learnt,
-    ) (lampughjata-placement-bytes-at t) lampughjata-placement-bytes.Post
-lampughjata-placement-bytes-place-whole-requires t c κs = search needs
+module _ (t : ℕ) where
+  slice-aggregate-lampughjata-placement-bytes : lts.Need-slice-aggregate-lampughjata-placement-bytes (calls t) (at t) lampughjata-placement-bytes.Post
+  slice-aggregate-lampughjata-placement-bytes c = sym (length-take-le 65536 (c .before .before .before .before .before .args .table .now) (search needs))
 
-lampughjata-placement-bytes-same-length-2 :
-    (t : ℕ) → lampughjata-placement-bytes-lts.Need-same-length-2 (
-      lampughjata-placement-bytes-below t,
-      lampughjata-placement-bytes.Post,
-      place-whole-reads.Asked,
-      place-whole-reads.Learnt,
-      place-picked-reads.Asked,
-      place-picked-reads.Learnt,
-    ) (lampughjata-placement-bytes-at t) lampughjata-placement-bytes.Post
-lampughjata-placement-bytes-same-length-2 t c = search needs
+  lampughjata-placement-bytes-requires : lts.Need-lampughjata-placement-bytes-requires (calls t) (at t) lampughjata-placement-bytes.Post
+  lampughjata-placement-bytes-requires c κs = (omega (arith, length-take 65536 (c .before .before .before .before .before .before .args .table .now), c .before .before .before .before .before .before .pre .0, c .before .before .if1 .taken), tt)
 
-lampughjata-placement-bytes-returns-2 : (t : ℕ) → lampughjata-placement-bytes-lts.Need-returns-2 (
-  lampughjata-placement-bytes-below t,
-  lampughjata-placement-bytes.Post,
-  place-whole-reads.Asked,
-  place-whole-reads.Learnt,
-  place-picked-reads.Asked,
-  place-picked-reads.Learnt,
-) (lampughjata-placement-bytes-at t) lampughjata-placement-bytes.Post
-lampughjata-placement-bytes-returns-2 t c = c .before .before .place-whole .ensures
+  same-length : lts.Need-same-length (calls t) (at t) lampughjata-placement-bytes.Post
+  same-length c = search needs
 
-lampughjata-placement-bytes-place-picked-requires :
-    (t : ℕ) → lampughjata-placement-bytes-lts.Need-place-picked-requires (
-      lampughjata-placement-bytes-below t,
-      lampughjata-placement-bytes.Post,
-      place-whole-reads.Asked,
-      place-whole-reads.Learnt,
-      place-picked-reads.Asked,
-      place-picked-reads.Learnt,
-    ) (lampughjata-placement-bytes-at t) lampughjata-placement-bytes.Post
-lampughjata-placement-bytes-place-picked-requires t c κs = search needs
+  returns : lts.Need-returns (calls t) (at t) lampughjata-placement-bytes.Post
+  returns c =
+      let a = c .before .before .before .before .before .before .before .before .before .args in
+      let self = c .before .before .lampughjata-placement-bytes .ensures in
+      let cut = whole-take 16384 (now (a .table)) in (
+        self .0 ∙ rw cut (ap (answerNumber placementNumber) (placement-cut (memoryAt (a .memory)) (wholeWords (now (a .table))) (a .rows) (wholeWords (now (a .references))) (length (wholeWords (now (a .offsets)))))),
+        self .1 ∙ rw cut (ap (λ (ws : List ℕ). putWords 0 ws (now (a .offsets))) (offsets-cut (memoryAt (a .memory)) (wholeWords (now (a .table))) (a .rows) (wholeWords (now (a .references))) (wholeWords (now (a .offsets))))),
+      )
 
-lampughjata-placement-bytes-same-length-3 :
-    (t : ℕ) → lampughjata-placement-bytes-lts.Need-same-length-3 (
-      lampughjata-placement-bytes-below t,
-      lampughjata-placement-bytes.Post,
-      place-whole-reads.Asked,
-      place-whole-reads.Learnt,
-      place-picked-reads.Asked,
-      place-picked-reads.Learnt,
-    ) (lampughjata-placement-bytes-at t) lampughjata-placement-bytes.Post
-lampughjata-placement-bytes-same-length-3 t c = search needs
+  place-whole-requires : lts.Need-place-whole-requires (calls t) (at t) lampughjata-placement-bytes.Post
+  place-whole-requires c κs = search needs
 
-lampughjata-placement-bytes-returns-3 : (t : ℕ) → lampughjata-placement-bytes-lts.Need-returns-3 (
-  lampughjata-placement-bytes-below t,
-  lampughjata-placement-bytes.Post,
-  place-whole-reads.Asked,
-  place-whole-reads.Learnt,
-  place-picked-reads.Asked,
-  place-picked-reads.Learnt,
-) (lampughjata-placement-bytes-at t) lampughjata-placement-bytes.Post
-lampughjata-placement-bytes-returns-3 t c = c .before .before .place-picked .ensures
+  same-length-2 : lts.Need-same-length-2 (calls t) (at t) lampughjata-placement-bytes.Post
+  same-length-2 c = search needs
+
+  returns-2 : lts.Need-returns-2 (calls t) (at t) lampughjata-placement-bytes.Post
+  returns-2 c = c .before .before .place-whole .ensures
+
+  place-picked-requires : lts.Need-place-picked-requires (calls t) (at t) lampughjata-placement-bytes.Post
+  place-picked-requires c κs = search needs
+
+  same-length-3 : lts.Need-same-length-3 (calls t) (at t) lampughjata-placement-bytes.Post
+  same-length-3 c = search needs
+
+  returns-3 : lts.Need-returns-3 (calls t) (at t) lampughjata-placement-bytes.Post
+  returns-3 c = c .before .before .place-picked .ensures
 
 pub +lampughjata-placement-bytes-spec : {M : Type 1} → statement M
 +lampughjata-placement-bytes-spec =
-    close μ-lampughjata-placement-bytes λ t. lampughjata-placement-bytes-lts.spec (
-      lampughjata-placement-bytes-below t,
-      lampughjata-placement-bytes.Post,
-      place-whole-reads.Asked,
-      place-whole-reads.Learnt,
-      place-picked-reads.Asked,
-      place-picked-reads.Learnt,
-    )
-    (lampughjata-placement-bytes-at t)
+    close μ λ t. lts.spec (calls t)
+    (at t)
     lampughjata-placement-bytes.Post
-    (lampughjata-placement-bytes-slice-aggregate-lampughjata-placement-bytes t)
-    (lampughjata-placement-bytes-lampughjata-placement-bytes-requires t)
-    (lampughjata-placement-bytes-same-length t)
-    (lampughjata-placement-bytes-returns t)
-    (lampughjata-placement-bytes-place-whole-requires t)
-    (lampughjata-placement-bytes-same-length-2 t)
-    (lampughjata-placement-bytes-returns-2 t)
-    (lampughjata-placement-bytes-place-picked-requires t)
-    (lampughjata-placement-bytes-same-length-3 t)
-    (lampughjata-placement-bytes-returns-3 t)
+    (slice-aggregate-lampughjata-placement-bytes t)
+    (lampughjata-placement-bytes-requires t)
+    (same-length t)
+    (returns t)
+    (place-whole-requires t)
+    (same-length-2 t)
+    (returns-2 t)
+    (place-picked-requires t)
+    (same-length-3 t)
+    (returns-3 t)
