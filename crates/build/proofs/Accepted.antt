@@ -14,7 +14,7 @@ use Rattle.canon.specs.Layout.{Memory, mem32, mem64, within, largestNumber, sta
 use Rattle.canon.specs.Placement.{Every}
 use Rattle.canon.specs.Row.{rowAbi, rowOf}
 use Rattle.canon.specs.Table.{capacity, rowAt}
-use Rattle.canon.specs.Description.{kindOf, shapeOf, bodyLength, isBadCount, typeOf, isTooLarge, Defined, checked, bodied, buildFrom, mostWords, build, built, tableAfter}
+use Rattle.canon.specs.Description.{kindOf, shapeOf, bodyLength, isBadCount, typeOf, isTooLarge, Defined, checked, bodied, buildFrom, mostWords, build, answered, built, buildAnswer, tableAfter}
 use Rattle.canon.proofs.Tests.{impossible}
 use Rattle.canon.proofs.Alignments.{members-aligned}
 use Rattle.canon.proofs.Tightest.{greatestAlign-least, ours, tightest}
@@ -22,6 +22,17 @@ use Rattle.canon.proofs.Sizes.{tooLarge-size}
 use Rattle.canon.proofs.Cells.{room-fits, length-putRows, row-at}
 use Rattle.canon.proofs.Built.{build-keeps, built-sound, every-sixteen, passed-test, every-snoc}
 use Rattle.canon.proofs.Refusals.{Product, aRecord, aTuple, Tightest}
+use Rattle.build.specs.Means.{accepted}
+
+-- How many are accepted
+
+pub accepted-types : (ws t : List ℕ) → accepted (buildAnswer ws t) ≡ length (built ws t .types)
+unfolding buildAnswer
+accepted-types ws t = go (built ws t .stopped)
+  where
+    go : (o : Option ℕ) → accepted (answered (length (built ws t .types)) o) ≡ length (built ws t .types)
+    go none = refl
+    go (some x) = refl
 
 -- Every accepted type fits
 
@@ -68,9 +79,9 @@ there (u ∷ ts) (suc i) t v e =
     let r = there ts i t (v .1) e in
     record { inside = omega (arith, r .inside); row = r .row; fits = r .fits }
 
-module _ (ws t : List ℕ) (i : ℕ) (u : Ty) (accepted : getElem? (built ws t .types) i ≡ some u) where
+module _ (ws t : List ℕ) (i : ℕ) (u : Ty) (stands : getElem? (built ws t .types) i ≡ some u) where
   found : There (built ws t .types) i u
-  found = there (built ws t .types) i u (all-fit ws t) accepted
+  found = there (built ws t .types) i u (all-fit ws t) stands
 
   pub row-is : rowAt (tableAfter ws t) i ≡ rowOf u
   unfolding tableAfter

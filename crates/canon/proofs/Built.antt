@@ -145,11 +145,11 @@ pub record At (ts : List Ty) (j : ℕ) : Type 0 where
   pub row : getD (map rowOf ts) j [] ≡ rowOf type
   pub definition : Definition type
 
-at : (ts : List Ty) (j : ℕ) → Every Definition ts → j < length ts → At ts j
-at [] j w h = absurd (omega arith)
-at (t ∷ ts) zero w h = record { type = t; found = refl; row = refl; definition = w .0 }
-at (t ∷ ts) (suc j) w h =
-    let r = at ts j (w .1) (omega arith) in
+pub type-at : (ts : List Ty) (j : ℕ) → Every Definition ts → j < length ts → At ts j
+type-at [] j w h = absurd (omega arith)
+type-at (t ∷ ts) zero w h = record { type = t; found = refl; row = refl; definition = w .0 }
+type-at (t ∷ ts) (suc j) w h =
+    let r = type-at ts j (w .1) (omega arith) in
     record { type = r .type; found = r .found; row = r .row; definition = r .definition }
 
 found-take : (ts : List Ty) (n j : ℕ) → j < n → getElem? (take n ts) j ≡ getElem? ts j
@@ -174,7 +174,7 @@ row-read : (ts : List Ty) (t : List ℕ) (j : ℕ) (room : ℕ) → Sound room t
     readRow (cellsFrom room (putRows room 0 (map rowOf ts) t) j 0 16) ≡ plainInfo (getElem? ts j)
 unfolding readRow plainInfo
 row-read ts t j room s fits h =
-    let r = at ts j (s .definitions) h in
+    let r = type-at ts j (s .definitions) h in
     rw (
       row-at room (length t) (map rowOf ts) t j fits (every-sixteen ts) (omega (arith, length-map ts rowOf, s .fits)) refl (omega (arith, length-map ts rowOf)),
       r .row,

@@ -3,26 +3,26 @@
 use mathlib.Core.Path.{_≡_, refl, sym, ap, ap₂, _∙_, fun-ext}
 use mathlib.Core.Bool.{Bool, true, false, cond, _||_}
 use mathlib.Core.List.{List, [], _∷_, _++_, map, append-assoc}
-use mathlib.Core.Option.{Option, none, some}
+use mathlib.Core.Option.{some}
 use Prim.Native.Nat.{ℕ, zero, suc, _+_, _*_, _-_, _≤_, _<_, min}
 use native.Mathlib.Decide.{decLe}
 use native.Mathlib.Omega.{arith}
 use lib.Dec.{leb, ltb}
 use lib.ListN.{length, take, drop, set, getElem?, length-set, length-take, length-drop, length-map, take-append-drop}
-use lib.Seq.{take-all, getD-take, set-append-left}
+use lib.Seq.{take-all, take-at, getD-take, set-append-left}
 use borrow.Author.Tests.{ltb-true, ltb-false, lt-ltb, le-ltb}
 use Rattle.canon.specs.Answer.{Leaf, is, no as refuses, Answer, ok, refused, then, unless, tooLong, badRef, badCount, noRoom, badRow}
-use Rattle.canon.specs.Layout.{Memory, within, Layout, starts, recordLayout}
-use Rattle.canon.specs.Row.{Info, rowOf}
+use Rattle.canon.specs.Layout.{Memory, Layout, starts}
+use Rattle.canon.specs.Row.{Info, infoLayout, rowOf}
 use Rattle.canon.specs.Table.{capacity, place, cell, cellsFrom, rowAt, putFrom, putRows}
 use Rattle.canon.specs.Description.{kindOf, Defined, define, follow, buildFrom, mostWords, build, built, buildAnswer, tableAfter}
-use Rattle.canon.specs.Question.{plainInfo, readRow, read, infos, tooMany, noTable, ask, askTwo, layoutsIn, Placing, refusedAt, judged, placed, placing, placementAnswer, bufferAfter, offsetsAfter}
+use Rattle.canon.specs.Question.{plainInfo, readRow, read, infos, tooMany, noTable, ask, askTwo, layoutsIn, Placing, placed, placing, placementAnswer, bufferAfter, offsetsAfter}
 use Rattle.canon.specs.Types.{Ty, plain}
-use Rattle.canon.proofs.Tests.{impossible, neither}
+use Rattle.canon.proofs.Tests.{neither}
 use Rattle.canon.proofs.Cells.{place-fits, room-fits, length-putFrom}
 use Rattle.canon.proofs.Built.{define-some, every-sixteen, built-sound}
 use Rattle.canon.specs.Placement.{Every}
-use Rattle.canon.proofs.Questions.{infos-length}
+use Rattle.canon.proofs.Questions.{infos-length, placing-starts}
 
 -- Tests
 
@@ -212,42 +212,27 @@ placement-first m t n ws room = rw (placing-first m t n ws room)
 
 -- as many offsets as references
 
-starts-length : (e : ℕ) (fs : List Layout) → length (starts e fs) ≡ length fs
+pub starts-length : (e : ℕ) (fs : List Layout) → length (starts e fs) ≡ length fs
 unfolding starts
 starts-length e [] = refl
 starts-length e (f ∷ fs) = ap suc (starts-length _ fs)
 
-placed-length : (fs : List Layout) (p : Placing) → placed fs ≡ ok p → length (p .offsets) ≡ length fs
-unfolding placed judged
-placed-length fs p e = go (refusedAt fs) e
-  where
-    go : (o : Option ℕ) → judged o (record { layout = recordLayout fs; offsets = starts 0 fs }) ≡ ok p → length (p .offsets) ≡ length fs
-    go none e = let q : record { layout = recordLayout fs; offsets = starts 0 fs } ≡ p = cc in ap (λ (x : Placing). length (x .offsets)) (sym q) ∙ starts-length 0 fs
-    go (some i) e = impossible (cc)
-
 pub offsets-length : (m : Memory) (t : List ℕ) (n : ℕ) (ws : List ℕ) (room : ℕ) (p : Placing) → placing m t n ws room ≡ ok p → length (p .offsets) ≡ length ws
-unfolding placing ask unless then
-offsets-length m t n ws room p = go (tooMany ws) (noTable t n) (ltb room (length ws)) (infos (read t n) 0 ws) refl
-  where
-    go :
-        (many missing short : Bool) (a : Answer (List Info)) → infos (read t n) 0 ws ≡ a →
-        unless many tooLong (unless missing badRow (unless short noRoom (then a (λ is′. placed (layoutsIn m is′))))) ≡ ok p → length (p .offsets) ≡ length ws
-    go true missing short a f e = impossible (cc)
-    go false true short a f e = impossible (cc)
-    go false false true a f e = impossible (cc)
-    go false false false (refused x q) f e = impossible (cc)
-    go false false false (ok is′) f e =
-        placed-length (layoutsIn m is′) p e ∙ length-map is′ (λ (i : Info). within m (i .abi .layouts)) ∙ infos-length (read t n) 0 ws is′ f
+offsets-length m t n ws room p e =
+    let a = placing-starts m t n ws room p e in
+    ap length (a .2) ∙ starts-length 0 (layoutsIn m (a .0)) ∙ length-map (a .0) (infoLayout m) ∙ infos-length (read t n) 0 ws (a .0) (a .1 .gives)
+
+-- the buffer begins with them
+pub offsets-written :
+    (m : Memory) (t : List ℕ) (n : ℕ) (ws out : List ℕ) (p : Placing) → placing m t n ws (length out) ≡ ok p →
+    take (length ws) (offsetsAfter m t n ws out) ≡ p .offsets
+unfolding offsetsAfter bufferAfter
+offsets-written m t n ws out p e =
+    rw e (take-at (p .offsets) (drop (length (p .offsets)) out) (length ws) (offsets-length m t n ws (length out) p e))
 
 few-offsets : (m : Memory) (t : List ℕ) (n : ℕ) (ws : List ℕ) (room : ℕ) (p : Placing) → placing m t n ws room ≡ ok p → length (p .offsets) ≤ 16384
-unfolding placing ask unless
-few-offsets m t n ws room p e = go (tooMany ws) refl e
-  where
-    go :
-        (many : Bool) → tooMany ws ≡ many →
-        unless many tooLong (unless (noTable t n) badRow (unless (ltb room (length ws)) noRoom (then (infos (read t n) 0 ws) (λ is′. placed (layoutsIn m is′))))) ≡ ok p → length (p .offsets) ≤ 16384
-    go true many f = impossible (cc)
-    go false few f = omega (arith, few-length ws few, offsets-length m t n ws room p e)
+few-offsets m t n ws room p e =
+    omega (arith, few-length ws (placing-starts m t n ws room p e .1 .few), offsets-length m t n ws room p e)
 
 behind-first : {A : Type 0} (n c : ℕ) (l : List A) → n ≤ c → drop n (take c l) ++ drop c l ≡ drop n l
 behind-first zero c l h = take-append-drop c l

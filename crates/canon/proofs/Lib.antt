@@ -9,6 +9,7 @@ pub mod FlatFolds
 pub mod Counts
 pub mod Despecialize
 pub mod Sizes
+pub mod Wider
 pub mod Refusals
 pub mod Cells
 pub mod Reaches

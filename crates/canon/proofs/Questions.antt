@@ -1,21 +1,23 @@
 -- Questions: what is read has the standard's alignments; a placement question is refused as too large exactly when its memory admits no
--- placement; and on a table that a build wrote every question answers for the types themselves.
+-- placement; appending references moves no offset before them; on a table that a build wrote every question answers for the types themselves,
+-- and what a placement accepts for 64 it accepts for 32.
 use mathlib.Core.Path.{_≡_, refl, sym, ap, _∙_}
 use mathlib.Core.Logic.{_↔_}
 use mathlib.Core.Bool.{Bool, true, false, cond}
-use mathlib.Core.List.{List, [], _∷_, _++_, map}
+use mathlib.Core.List.{List, [], _∷_, _++_, map, map-append, Forall₂, Forall₂·nil as empty, Forall₂·cons as pair}
 use mathlib.Core.Option.{Option, none, some}
 use Prim.Native.Nat.{ℕ, suc, _*_, _-_, _≤_}
+use native.Mathlib.Decide.{decLe}
 use native.Mathlib.Omega.{arith}
 use lib.Dec.{leb, ltb}
 use lib.ListN.{length, take, getElem?}
-use borrow.Author.Tests.{le-ltb}
-use Rattle.canon.specs.Answer.{Leaf, is, no as refuses, Answer, ok, refused, atPosition, then, unless, mapOption2, mapOption, badRef, tooLarge}
+use borrow.Author.Tests.{ltb-false, le-ltb}
+use Rattle.canon.specs.Answer.{Leaf, is, no as refuses, Answer, ok, refused, atPosition, then, unless, mapOption2, mapOption, tooLong, badRef, tooLarge, noRoom, badRow}
 use Rattle.canon.specs.Types.{Ty, Core, plain}
-use Rattle.canon.specs.Layout.{Memory, mem32, mem64, Layout, within, layout}
+use Rattle.canon.specs.Layout.{Memory, mem32, mem64, Layout, within, starts, lastEnd, recordSize, layout, largestNumber}
 use Rattle.canon.specs.Flat.{flatten, flatCount}
 use Rattle.canon.specs.Reach.{Reach, noReach, joinReach, reach}
-use Rattle.canon.specs.Row.{Info, infoOf, rowAbi, rowInfo, rowOf, word, goodAbi, isGood}
+use Rattle.canon.specs.Row.{Info, infoLayout, infoOf, rowAbi, rowInfo, rowOf, word, goodAbi, isGood}
 use Rattle.canon.specs.Table.{capacity, rowAt}
 use Rattle.canon.specs.Description.{reference, built, tableAfter}
 use Rattle.canon.specs.Question.{plainInfo, readRow, read, infos, tooMany, noTable, ask, askTwo, typeAnswer, layoutsIn, Placing, placed, placing, reachAll}
@@ -23,12 +25,13 @@ use Rattle.canon.specs.Signature.{flatAll}
 use Rattle.canon.proofs.Tests.{impossible, both-true}
 use Rattle.canon.proofs.Tightest.{Aligned}
 use Rattle.canon.proofs.Alignments.{layout-aligned}
-use Rattle.canon.proofs.Refusals.{Tightest, placed-six, placed-tightest}
+use Rattle.canon.proofs.Wider.{_≼_, both-aligned, starts-wider, record-wider, layout-wider, starts-append}
+use Rattle.canon.proofs.Refusals.{Tightest, placed-fits, placed-large, placed-six, placed-is, placed-tightest}
 use Rattle.canon.proofs.Cells.{room-fits, length-putRows}
 use Rattle.canon.proofs.Rows.{flat-back}
 use Rattle.canon.proofs.Built.{typeInfo, built-sound, reads-built}
 use Rattle.canon.proofs.Rounding.{Alignment, abi-tested}
-use Rattle.canon.specs.Placement.{NoPlacement}
+use Rattle.canon.specs.Placement.{NoPlacement, NoneLater}
 
 -- What is read is aligned
 
@@ -73,12 +76,18 @@ first-ok p (refuses x) a is′ e = impossible (cc)
 first-ok p (is i) (refused x q) is′ e = impossible (cc)
 first-ok p (is i) (ok js) is′ e = (i, js, refl, refl, cc)
 
-pub infos-aligned : (m : Memory) (t : List ℕ) (n p : ℕ) (ws : List ℕ) (is′ : List Info) → infos (read t n) p ws ≡ ok is′ → Aligned (layoutsIn m is′)
+-- what holds of no infos, and of one more that is looked up, holds of the list
+infos-keep :
+    (P : List Info → Type 0) (look : ℕ → Leaf Info) → P [] → ((w : ℕ) (i : Info) (js : List Info) → look w ≡ is i → P js → P (i ∷ js)) →
+    (p : ℕ) (ws : List ℕ) (is′ : List Info) → infos look p ws ≡ ok is′ → P is′
 unfolding infos
-infos-aligned m t n p [] is′ e = let q : [] ≡ is′ = cc in rw (← q) tt
-infos-aligned m t n p (w ∷ ws) is′ e =
-    let r = first-ok p (read t n w) (infos (read t n) (suc p) ws) is′ e in
-    rw (r .4) (read-aligned m t n w (r .0) (r .2), infos-aligned m t n (suc p) ws (r .1) (r .3))
+infos-keep P look first more p [] is′ e = let q : [] ≡ is′ = cc in rw (← q) first
+infos-keep P look first more p (w ∷ ws) is′ e =
+    let r = first-ok p (look w) (infos look (suc p) ws) is′ e in
+    rw (r .4) (more w (r .0) (r .1) (r .2) (infos-keep P look first more (suc p) ws (r .1) (r .3)))
+
+pub infos-aligned : (m : Memory) (t : List ℕ) (n p : ℕ) (ws : List ℕ) (is′ : List Info) → infos (read t n) p ws ≡ ok is′ → Aligned (layoutsIn m is′)
+infos-aligned m t n = infos-keep (λ js. Aligned (layoutsIn m js)) (read t n) tt (λ w i js e v. (read-aligned m t n w i e, v))
 
 -- as many infos as references
 pub infos-length : (look : ℕ → Leaf Info) (p : ℕ) (ws : List ℕ) (is′ : List Info) → infos look p ws ≡ ok is′ → length is′ ≡ length ws
@@ -110,6 +119,64 @@ pub placing-tightest :
     placing m t n ws room ≡ ok p → Tightest (layoutsIn m is′) p
 placing-tightest {t} {n} {ws} {room} {is′} m p r e =
     placed-tightest (layoutsIn m is′) p (infos-aligned m t n 0 ws is′ (r .gives)) (sym (placing-reads m r) ∙ e)
+
+-- whatever is placed passed those checks, and its offsets are the starts of what it reads
+pub placing-starts :
+    (m : Memory) (t : List ℕ) (n : ℕ) (ws : List ℕ) (room : ℕ) (p : Placing) → placing m t n ws room ≡ ok p →
+    (is′ : List Info) × Reads t n ws room is′ × (p .offsets ≡ starts 0 (layoutsIn m is′))
+unfolding placing ask unless then
+placing-starts m t n ws room p = go (tooMany ws) (noTable t n) (ltb room (length ws)) (infos (read t n) 0 ws) refl refl refl refl
+  where
+    go :
+        (many missing short : Bool) (a : Answer (List Info)) →
+        tooMany ws ≡ many → noTable t n ≡ missing → ltb room (length ws) ≡ short → infos (read t n) 0 ws ≡ a →
+        unless many tooLong (unless missing badRow (unless short noRoom (then a (λ is′. placed (layoutsIn m is′))))) ≡ ok p →
+        (is′ : List Info) × Reads t n ws room is′ × (p .offsets ≡ starts 0 (layoutsIn m is′))
+    go true missing short a f g h i e = impossible (cc)
+    go false true short a f g h i e = impossible (cc)
+    go false false true a f g h i e = impossible (cc)
+    go false false false (refused x q) f g h i e = impossible (cc)
+    go false false false (ok is′) f g h i e = (
+      is′,
+      record { few = f; table = g; fits = ltb-false room (length ws) h; gives = i },
+      ap (λ (q : Placing). q .offsets) (sym (placed-is _ p (infos-aligned m t n 0 ws is′ i) e .0)),
+    )
+
+-- appending references moves no offset before them
+
+infos-append :
+    (look : ℕ → Leaf Info) (p : ℕ) (ws vs : List ℕ) (js : List Info) → infos look p (ws ++ vs) ≡ ok js →
+    (is′ ks : List Info) × (infos look p ws ≡ ok is′) × (js ≡ is′ ++ ks)
+unfolding infos then atPosition
+infos-append look p [] vs js e = ([], js, refl, refl)
+infos-append look p (w ∷ ws) vs js e =
+    let r = first-ok p (look w) (infos look (suc p) (ws ++ vs)) js e in
+    go (r .0) (r .1) (r .2) (r .4) (infos-append look (suc p) ws vs (r .1) (r .3))
+  where
+    go :
+        (i : Info) (js′ : List Info) → look w ≡ is i → js ≡ i ∷ js′ →
+        (is′ ks : List Info) × (infos look (suc p) ws ≡ ok is′) × (js′ ≡ is′ ++ ks) →
+        (is′ ks : List Info) × (infos look p (w ∷ ws) ≡ ok is′) × (js ≡ is′ ++ ks)
+    go i js′ f g l = (i ∷ l .0, l .1, rw (f, l .2), g ∙ ap (λ (x : List Info). i ∷ x) (l .3))
+
+pub offsets-begin :
+    (m : Memory) (t : List ℕ) (n : ℕ) (ws vs : List ℕ) (room room′ : ℕ) (p q : Placing) →
+    placing m t n ws room ≡ ok p → placing m t n (ws ++ vs) room′ ≡ ok q → (os : List ℕ) × (q .offsets ≡ p .offsets ++ os)
+offsets-begin m t n ws vs room room′ p q e f =
+    let a = placing-starts m t n ws room p e in
+    let b = placing-starts m t n (ws ++ vs) room′ q f in
+    let l = infos-append (read t n) 0 ws vs (b .0) (b .1 .gives) in
+    let same : a .0 ≡ l .0 = cc in
+    go (l .0) (l .1) (p .offsets) (a .2 ∙ ap (λ (js : List Info). starts 0 (layoutsIn m js)) same)
+    (b .2 ∙ ap (λ (js : List Info). starts 0 (layoutsIn m js)) (l .3))
+  where
+    go :
+        (is′ ks : List Info) (os : List ℕ) {qs : List ℕ} → os ≡ starts 0 (layoutsIn m is′) → qs ≡ starts 0 (layoutsIn m (is′ ++ ks)) →
+        (more : List ℕ) × (qs ≡ os ++ more)
+    go is′ ks os {qs} g h = (
+      starts (lastEnd 0 (layoutsIn m is′)) (layoutsIn m ks),
+      rw (g, h, map-append (infoLayout m) is′ ks) (starts-append 0 (layoutsIn m is′) (layoutsIn m ks)),
+    )
 
 -- Tables that a build wrote
 
@@ -197,3 +264,64 @@ pub reaches-typed : (us : List Ty) → reachAll (map infoOf us) ≡ reachTypes u
 unfolding reachAll
 reaches-typed [] = refl
 reaches-typed (u ∷ us) = ap (joinReach (reach u)) (reaches-typed us)
+
+-- One placement in both memories
+
+-- how the answer for 32 and the answer for 64 stand to each other
+pub data Beside : Answer Placing → Answer Placing → Type 0 where
+  bothPlaced : {p q : Placing} → p .layout ≼ q .layout → NoneLater (p .offsets) (q .offsets) → Beside (ok p) (ok q)
+  wideTooLarge : {p : Placing} {i : ℕ} → Beside (ok p) (refused tooLarge i)
+  bothRefused : {x i j : ℕ} → Beside (refused x i) (refused x j)
+
+-- what 64 accepts, 32 accepts, with no later offset
+pub beside-accepted : {a b : Answer Placing} {q : Placing} → Beside a b → b ≡ ok q → (p : Placing) × (a ≡ ok p) × (p .layout ≼ q .layout) × NoneLater (p .offsets) (q .offsets)
+beside-accepted {q = q} (bothPlaced {p = p} {q = q′} r s) e = let f : q′ ≡ q = cc in rw (← f) (p, refl, r, s)
+beside-accepted wideTooLarge e = impossible (cc)
+beside-accepted bothRefused e = impossible (cc)
+
+-- what 32 refuses, 64 refuses with the same number
+pub beside-refused : {a b : Answer Placing} {x i : ℕ} → Beside a b → a ≡ refused x i → (j : ℕ) × (b ≡ refused x j)
+beside-refused (bothPlaced r s) e = impossible (cc)
+beside-refused wideTooLarge e = impossible (cc)
+beside-refused (bothRefused {j = j}) e = (j, cc)
+
+placed-beside : {fs gs : List Layout} → Forall₂ _≼_ fs gs → Beside (placed fs) (placed gs)
+placed-beside {fs} {gs} p =
+    elim (decLe (recordSize fs) largestNumber) [
+      | no n ↦ rw (placed-large fs (omega arith) .1, placed-large gs (omega (arith, record-wider p .size)) .1) bothRefused
+      | yes h ↦ rw (placed-fits fs (both-aligned p .0) h) (elim (decLe (recordSize gs) largestNumber) [
+        | no n ↦ rw (placed-large gs (omega arith) .1) wideTooLarge
+        | yes k ↦ rw (placed-fits gs (both-aligned p .1) k) (bothPlaced (record-wider p) (starts-wider p))
+      ])
+    ]
+
+-- the tests before know no memory
+unless-beside : (b : Bool) (x : ℕ) {a c : Answer Placing} → Beside a c → Beside (unless b x a) (unless b x c)
+unfolding unless
+unless-beside true x r = bothRefused
+unless-beside false x r = r
+
+infos-wider : (ts : List Ty) (p : ℕ) (ws : List ℕ) (is′ : List Info) → infos (typeInfo ts) p ws ≡ ok is′ → Forall₂ _≼_ (layoutsIn mem32 is′) (layoutsIn mem64 is′)
+unfolding plainInfo
+infos-wider ts =
+    infos-keep (λ js. Forall₂ _≼_ (layoutsIn mem32 js) (layoutsIn mem64 js)) (typeInfo ts) empty (λ w i js e v. pair (each (reference ts w) i e) v)
+  where
+    each : (o : Option Ty) (i : Info) → plainInfo o ≡ is i → infoLayout mem32 i ≼ infoLayout mem64 i
+    each none i e = impossible (cc)
+    each (some u) i e = let q : infoOf u ≡ i = cc in rw (← q) (layout-wider u)
+
+pub placing-beside :
+    (ws t : List ℕ) (n : ℕ) (refs : List ℕ) (room room′ : ℕ) → n ≤ length (built ws t .types) → ltb room (length refs) ≡ ltb room′ (length refs) →
+    Beside (placing mem32 (tableAfter ws t) n refs room) (placing mem64 (tableAfter ws t) n refs room′)
+unfolding placing ask unless then
+placing-beside ws t n refs room room′ rows alike =
+    rw (alike, reads-built ws t n rows)
+    (unless-beside (tooMany refs) tooLong
+    (unless-beside (noTable (tableAfter ws t) n) badRow (unless-beside (ltb room′ (length refs)) noRoom (go (infos (typeInfo ts) 0 refs) refl))))
+  where
+    ts : List Ty
+    ts = take n (built ws t .types)
+
+    go : (a : Answer (List Info)) → infos (typeInfo ts) 0 refs ≡ a → Beside (then a (λ is′. placed (layoutsIn mem32 is′))) (then a (λ is′. placed (layoutsIn mem64 is′)))
+    go (refused x p) e = bothRefused
+    go (ok is′) e = placed-beside (infos-wider ts 0 refs is′ e)

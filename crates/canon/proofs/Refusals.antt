@@ -1,8 +1,9 @@
--- Demand 3: refused as too large exactly when no placement exists, for a record or tuple of a description and for a placement question.
+-- Demand 3: refused as too large exactly when no placement exists, for a record or tuple of a description and for a placement question. What a
+-- description defines is refused so exactly when it is too large for the 64-bit memory.
 use mathlib.Core.Path.{_≡_, refl, sym, _∙_}
-use mathlib.Core.Logic.{_⊎_, inl, inr, ⊎-elim, _↔_}
-use mathlib.Core.Bool.{Bool, true, false, cond, _||_}
-use mathlib.Core.List.{List, [], _∷_}
+use mathlib.Core.Logic.{_⊎_, inr, ⊎-elim, _↔_}
+use mathlib.Core.Bool.{Bool, true, false, cond}
+use mathlib.Core.List.{List, [], _∷_, Forall₂}
 use mathlib.Core.Option.{Option, none, some}
 use Prim.Native.Nat.{ℕ, suc, _+_, _≤_, _<_}
 use native.Mathlib.Decide.{decLe}
@@ -10,16 +11,17 @@ use native.Mathlib.Omega.{arith}
 use lib.Dec.{ltb}
 use lib.ListN.{length, getD, take, drop}
 use borrow.Author.Tests.{ltb-true, ltb-false, lt-ltb, le-ltb}
-use Rattle.canon.specs.Answer.{Leaf, is, no as refuses, ok, refused, tooLarge}
+use Rattle.canon.specs.Answer.{Leaf, is, no as refuses, ok, refused, mapOption, truncated, badCount, tooLarge}
 use Rattle.canon.specs.Types.{Ty, recordOf, tupleOf, Members, Kind, kRecord, kTuple}
 use Rattle.canon.specs.Layout.{Memory, mem32, mem64, Layout, largestNumber, starts, lastEnd, recordSize, recordLayout, layout, members, roundUp}
-use Rattle.canon.specs.Description.{kindOf, shapeOf, bodyLength, membersOf, typeOf, isTooLarge, Defined, checked, bodied, define}
+use Rattle.canon.specs.Description.{kindOf, shapeOf, bodyLength, isBadCount, membersOf, typeOf, isTooLarge, Defined, checked, bodied, define}
 use Rattle.canon.specs.Question.{firstOver, orSize, refusedAt, Placing, judged, placed}
-use Rattle.canon.proofs.Tests.{impossible, either-true}
+use Rattle.canon.proofs.Tests.{impossible}
 use Rattle.canon.proofs.Tightest.{Aligned, le-lastEnd, le-recordSize, greatestAlign-least, ours, tightest}
 use Rattle.canon.proofs.Alignments.{members-aligned}
 use Rattle.canon.proofs.Sizes.{tooLarge-size}
 use Rattle.canon.specs.Placement.{LeastCommon, Placement, NoPlacement, NoneLater}
+use Rattle.canon.proofs.Wider.{_≼_, both-aligned, record-wider, members-wider, tooLarge-either}
 
 -- the size alone decides whether there is a placement
 pub large-iff : (fs : List Layout) → Aligned fs → (largestNumber < recordSize fs) ↔ NoPlacement fs
@@ -27,6 +29,54 @@ large-iff fs w = (
   λ h ss size p. omega (arith, tightest w p .1, p .fits),
   λ n. elim (decLe (recordSize fs) largestNumber) [ yes h ↦ absurd (n (starts 0 fs) (recordSize fs) (ours fs w (omega arith))) | no h ↦ omega arith ],
 )
+
+-- Definitions
+
+-- the words w and ws spell the type t, after the types ts, and pass every check before the last
+pub record Passes (ts : List Ty) (w : ℕ) (ws : List ℕ) (t : Ty) : Type 0 where
+  pub kind : Kind
+  pub known : kindOf w ≡ some kind
+  pub whole : bodyLength (shapeOf kind) (getD ws 0 0) ≤ length ws
+  pub counted : isBadCount kind (getD ws 0 0) ≡ false
+  pub named : typeOf ts kind (take (bodyLength (shapeOf kind) (getD ws 0 0)) ws) ≡ some t
+
+-- the last test of a definition: the 64-bit memory decides it
+checked-six : (n : ℕ) (t : Ty) → (checked n (some t) ≡ refuses tooLarge) ↔ (isTooLarge mem64 t ≡ true)
+unfolding checked
+checked-six n t = rw (tooLarge-either t) (go (isTooLarge mem64 t))
+  where
+    go : (b : Bool) → (cond {A = Leaf Defined} b (refuses tooLarge) (is (record { type = t; length = n })) ≡ refuses tooLarge) ↔ (b ≡ true)
+    go true = (λ h. refl, λ h. refl)
+    go false = (λ h. impossible (cc), λ h. impossible (cc))
+
+-- every earlier check passed, so that test decides
+pub define-six : {ts : List Ty} {w : ℕ} {ws : List ℕ} {t : Ty} → Passes ts w ws t → (define ts w ws ≡ refuses tooLarge) ↔ (isTooLarge mem64 t ≡ true)
+unfolding bodied
+define-six {ws = ws} {t = t} p =
+    simp (p .known, le-ltb _ _ (p .whole), p .counted, p .named) (checked-six (bodyLength (shapeOf (p .kind)) (getD ws 0 0)) t)
+
+-- what is refused as too large came to its last test
+pub six-passes : (ts : List Ty) (w : ℕ) (ws : List ℕ) → define ts w ws ≡ refuses tooLarge → (t : Ty) × Passes ts w ws t
+unfolding bodied checked
+six-passes ts w ws e = go (kindOf w) refl e
+  where
+    body : Kind → ℕ
+    body k = bodyLength (shapeOf k) (getD ws 0 0)
+
+    last :
+        (k : Kind) → kindOf w ≡ some k → (short bad : Bool) (o : Option Ty) →
+        ltb (length ws) (body k) ≡ short → isBadCount k (getD ws 0 0) ≡ bad → typeOf ts k (take (body k) ws) ≡ o →
+        cond short (refuses truncated) (cond bad (refuses badCount) (checked (body k) o)) ≡ refuses tooLarge →
+        (t : Ty) × Passes ts w ws t
+    last k known true bad o l c n h = impossible (cc)
+    last k known false true o l c n h = impossible (cc)
+    last k known false false none l c n h = impossible (cc)
+    last k known false false (some t) l c n h =
+        (t, record { kind = k; known = known; whole = ltb-false (length ws) (body k) l; counted = c; named = n })
+
+    go : (o : Option Kind) → kindOf w ≡ o → bodied ts o ws ≡ refuses tooLarge → (t : Ty) × Passes ts w ws t
+    go none known h = impossible (cc)
+    go (some k) known h = last k known _ _ _ refl refl refl h
 
 -- Records and tuples of a description
 
@@ -46,43 +96,45 @@ unfolding layout
 product-size aRecord m us = tooLarge-size m (recordOf us)
 product-size aTuple m us = tooLarge-size m (tupleOf us)
 
--- the words w and ws spell a record or tuple of the members us, after the types ts, that passes every check before the last
-pub record Passes (ts : List Ty) (w : ℕ) (ws : List ℕ) (us : Members) : Type 1 where
-  pub kind : Kind
-  pub type : Members → Ty
-  pub product : Product kind type
-  pub known : kindOf w ≡ some kind
-  pub whole : bodyLength (shapeOf kind) (getD ws 0 0) ≤ length ws
-  pub named : membersOf ts (drop 1 (take (bodyLength (shapeOf kind) (getD ws 0 0)) ws)) ≡ some us
+mapped : {t : Ty} (type : Members → Ty) (o : Option Members) → mapOption type o ≡ some t → (us : Members) × (t ≡ type us)
+mapped type none h = impossible (cc)
+mapped type (some us) h = (us, cc)
 
-checked-six : (n : ℕ) (t : Ty) → (checked n (some t) ≡ refuses tooLarge) ↔ (isTooLarge mem32 t || isTooLarge mem64 t ≡ true)
-unfolding checked
-checked-six n t = go (isTooLarge mem32 t || isTooLarge mem64 t)
+product-spells : {k : Kind} {type : Members → Ty} → Product k type → (ts : List Ty) (b : List ℕ) (t : Ty) → typeOf ts k b ≡ some t → (us : Members) × (t ≡ type us)
+unfolding typeOf
+product-spells aRecord ts b t e = mapped recordOf (membersOf ts (drop 1 b)) e
+product-spells aTuple ts b t e = mapped tupleOf (membersOf ts (drop 1 b)) e
+
+-- what passes as such a kind is such a type
+pub product-passes :
+    {ts : List Ty} {w : ℕ} {ws : List ℕ} {t : Ty} {k : Kind} {type : Members → Ty} → Product k type → kindOf w ≡ some k → Passes ts w ws t →
+    (us : Members) × Passes ts w ws (type us)
+product-passes {ts} {w} {ws} {t} {k} product known p =
+    let q : p .kind ≡ k = cc in
+    let s = product-spells product ts (take (bodyLength (shapeOf k) (getD ws 0 0)) ws) t (rw q at (p .named)) in
+    (s .0, rw (← (s .1)) p)
+
+-- where the narrower layouts have no placement, the wider have none
+none-wider : {fs gs : List Layout} → Forall₂ _≼_ fs gs → NoPlacement fs → NoPlacement gs
+none-wider {fs} {gs} p n =
+    large-iff gs (both-aligned p .1) .0 (omega (arith, large-iff fs (both-aligned p .0) .1 n, record-wider p .size))
+
+-- "one of the two memories admits none" comes to the 64-bit one
+pub either-none : (us : Members) → (NoPlacement (members mem32 us) ⊎ NoPlacement (members mem64 us)) ↔ NoPlacement (members mem64 us)
+either-none us = (⊎-elim (none-wider (members-wider us)) (λ n. n), inr)
+
+module _
+    {ts : List Ty} {w : ℕ} {ws : List ℕ} {k : Kind} {type : Members → Ty} (product : Product k type) (us : Members)
+    (passes : Passes ts w ws (type us))
   where
-    go : (b : Bool) → (cond {A = Leaf Defined} b (refuses tooLarge) (is (record { type = t; length = n })) ≡ refuses tooLarge) ↔ (b ≡ true)
-    go true = (λ h. refl, λ h. refl)
-    go false = (λ h. impossible (cc), λ h. impossible (cc))
+    wide-decides : (define ts w ws ≡ refuses tooLarge) ↔ NoPlacement (members mem64 us)
+    wide-decides =
+        let six = define-six passes in
+        let large = members-large mem64 (type us) us (product-size product mem64 us) in
+        (λ h. large .0 (six .0 h), λ n. six .1 (large .1 n))
 
--- every earlier check passed: the definition comes to its last test
-define-checked : {k : Kind} {type : Members → Ty} → Product k type → (ts : List Ty) (w : ℕ) (ws : List ℕ) (us : Members) → kindOf w ≡ some k →
-    bodyLength (shapeOf k) (getD ws 0 0) ≤ length ws → membersOf ts (drop 1 (take (bodyLength (shapeOf k) (getD ws 0 0)) ws)) ≡ some us →
-    define ts w ws ≡ checked (bodyLength (shapeOf k) (getD ws 0 0)) (some (type us))
-unfolding bodied typeOf
-define-checked aRecord ts w ws us known whole named = simp (known, le-ltb _ _ whole, named)
-define-checked aTuple ts w ws us known whole named = simp (known, le-ltb _ _ whole, named)
-
-pub refused-six : {ts : List Ty} {w : ℕ} {ws : List ℕ} {us : Members} → Passes ts w ws us →
-    (define ts w ws ≡ refuses tooLarge) ↔ (NoPlacement (members mem32 us) ⊎ NoPlacement (members mem64 us))
-refused-six {ts} {w} {ws} {us} p =
-    let e : define ts w ws ≡ checked (bodyLength (shapeOf (p .kind)) (getD ws 0 0)) (some (p .type us)) =
-    define-checked (p .product) ts w ws us (p .known) (p .whole) (p .named) in
-    let six = checked-six (bodyLength (shapeOf (p .kind)) (getD ws 0 0)) (p .type us) in
-    let either = either-true (isTooLarge mem32 (p .type us)) (isTooLarge mem64 (p .type us)) in
-    let large : (m : Memory) → (isTooLarge m (p .type us) ≡ true) ↔ NoPlacement (members m us) =
-    λ m. members-large m (p .type us) us (product-size (p .product) m us) in (
-      λ h. ⊎-elim (λ l. inl (large mem32 .0 l)) (λ r. inr (large mem64 .0 r)) (either .0 (six .0 (sym e ∙ h))),
-      λ h. e ∙ six .1 (either .1 (⊎-elim (λ l. inl (large mem32 .1 l)) (λ r. inr (large mem64 .1 r)) h)),
-    )
+    pub refused-six : (define ts w ws ≡ refuses tooLarge) ↔ (NoPlacement (members mem32 us) ⊎ NoPlacement (members mem64 us))
+    refused-six = (λ h. inr (wide-decides .0 h), λ n. wide-decides .1 (either-none us .0 n))
 
 -- Placement questions
 
@@ -94,9 +146,9 @@ first-fits p e (f ∷ fs) w h =
     rw (le-ltb largestNumber (roundUp e (f .align)) (omega arith), le-ltb largestNumber (roundUp e (f .align) + f .size) (omega arith))
     (first-fits (suc p) (roundUp e (f .align) + f .size) fs (w .1) h)
 
-fits-judged : (fs : List Layout) → Aligned fs → recordSize fs ≤ largestNumber → refusedAt fs ≡ none
-unfolding refusedAt orSize
-fits-judged fs w h =
+pub placed-fits : (fs : List Layout) → Aligned fs → recordSize fs ≤ largestNumber → placed fs ≡ ok (record { layout = recordLayout fs; offsets = starts 0 fs })
+unfolding placed judged refusedAt orSize
+placed-fits fs w h =
     rw (first-fits 0 0 fs w (omega (arith, le-recordSize fs w)), le-ltb largestNumber (recordSize fs) h)
 
 large-judged : (o : Option ℕ) (size : ℕ) → largestNumber < size → (i : ℕ) × (orSize o size ≡ some i)
@@ -104,16 +156,29 @@ unfolding orSize
 large-judged (some p) size h = (p, refl)
 large-judged none size h = (0, rw (lt-ltb largestNumber size h))
 
+pub placed-large : (fs : List Layout) → largestNumber < recordSize fs → (i : ℕ) × (placed fs ≡ refused tooLarge i)
+unfolding placed judged refusedAt
+placed-large fs h = let j = large-judged (firstOver 0 0 fs) (recordSize fs) h in (j .0, rw (j .1))
+
 -- refused, whatever position it names, exactly when its own memory admits no placement
 pub placed-six : (fs : List Layout) → Aligned fs → ((i : ℕ) × (placed fs ≡ refused tooLarge i)) ↔ NoPlacement fs
-unfolding placed judged refusedAt
 placed-six fs w = (
   λ r. elim (decLe (recordSize fs) largestNumber) [
-    | yes h ↦ let e = fits-judged fs w h in impossible (cc)
+    | yes h ↦ let e = placed-fits fs w h in impossible (cc)
     | no h ↦ large-iff fs w .0 (omega arith)
   ],
-  λ n. let j = large-judged (firstOver 0 0 fs) (recordSize fs) (large-iff fs w .1 n) in (j .0, rw (j .1)),
+  λ n. placed-large fs (large-iff fs w .1 n),
 )
+
+-- accepted, it is canon's own starts, and all of it fits
+pub placed-is :
+    (fs : List Layout) (p : Placing) → Aligned fs → placed fs ≡ ok p →
+    (record { layout = recordLayout fs; offsets = starts 0 fs } ≡ p) × (recordSize fs ≤ largestNumber)
+placed-is fs p w e =
+    elim (decLe (recordSize fs) largestNumber) [
+      | yes h ↦ let f = placed-fits fs w h in (cc, h)
+      | no h ↦ let j = placed-large fs (omega arith) .1 in impossible (cc)
+    ]
 
 -- answered: the offsets and the size are a placement, its alignment the record's, and no placement is tighter
 pub record Tightest (fs : List Layout) (p : Placing) : Type 0 where
@@ -121,24 +186,8 @@ pub record Tightest (fs : List Layout) (p : Placing) : Type 0 where
   pub alignment : LeastCommon fs (p .layout .align)
   pub noneTighter : (ss : List ℕ) (size : ℕ) → Placement fs ss size → NoneLater (p .offsets) ss × (p .layout .size ≤ size)
 
-ok-here : (o : Option ℕ) (q p : Placing) → judged o q ≡ ok p → (o ≡ none) × (q ≡ p)
-unfolding judged
-ok-here none q p h = (refl, cc)
-ok-here (some i) q p h = impossible (cc)
-
-fits-none : (o : Option ℕ) (size : ℕ) → orSize o size ≡ none → size ≤ largestNumber
-unfolding orSize
-fits-none (some p) size h = impossible (cc)
-fits-none none size h = go (ltb largestNumber size) refl h
-  where
-    go : (b : Bool) → ltb largestNumber size ≡ b → cond {A = Option ℕ} b (some 0) none ≡ none → size ≤ largestNumber
-    go true e q = impossible (cc)
-    go false e q = ltb-false largestNumber size e
-
 pub placed-tightest : (fs : List Layout) (p : Placing) → Aligned fs → placed fs ≡ ok p → Tightest fs p
-unfolding placed refusedAt
 placed-tightest fs p w h =
-    let r = ok-here (refusedAt fs) (record { layout = recordLayout fs; offsets = starts 0 fs }) p h in
-    let l : recordSize fs ≤ largestNumber = fits-none (firstOver 0 0 fs) (recordSize fs) (r .0) in
-    rw (← (r .1))
-    (record { placement = ours fs w (omega arith); alignment = greatestAlign-least fs w; noneTighter = λ ss size q. tightest w q })
+    let r = placed-is fs p w h in
+    rw (← (r .0))
+    (record { placement = ours fs w (omega (arith, r .1)); alignment = greatestAlign-least fs w; noneTighter = λ ss size q. tightest w q })

@@ -1,23 +1,23 @@
--- Where a build stops: at the first definition that is refused, among those that it comes to. With that, demand 3 of a build's answer.
+-- Where a build stops: at the first definition that is refused, among those that it comes to. With that, when a build answers 6, and demand 3
+-- of its answer.
 use mathlib.Core.Path.{_≡_, refl, ap, _∙_}
 use mathlib.Core.Logic.{_⊎_, _↔_}
-use mathlib.Core.Bool.{Bool, true, false, cond}
+use mathlib.Core.Bool.{true}
 use mathlib.Core.List.{List, [], _∷_, _++_}
 use mathlib.Core.Option.{Option, none, some}
 use Prim.Native.Nat.{ℕ, zero, suc, _-_, _≤_, _<_}
 use native.Mathlib.Nat.{le-refl}
 use native.Mathlib.Decide.{decLe}
 use native.Mathlib.Omega.{arith}
-use lib.Dec.{ltb}
-use lib.ListN.{length, getD, take, drop, length-append}
-use borrow.Author.Tests.{ltb-false, lt-ltb, le-ltb}
-use Rattle.canon.specs.Answer.{Leaf, is, no as refuses, refused, mapOption, tooLong, truncated, tooLarge, noRoom}
+use lib.ListN.{length, drop, length-append}
+use borrow.Author.Tests.{lt-ltb, le-ltb}
+use Rattle.canon.specs.Answer.{Leaf, is, no as refuses, refused, tooLong, tooLarge, noRoom}
 use Rattle.canon.specs.Types.{Ty, Members, Kind}
 use Rattle.canon.specs.Layout.{mem32, mem64, members}
 use Rattle.canon.specs.Table.{capacity}
-use Rattle.canon.specs.Description.{kindOf, shapeOf, bodyLength, membersOf, typeOf, Defined, checked, bodied, define, Built, follow, buildFrom, mostWords, build, answered, built, buildAnswer}
+use Rattle.canon.specs.Description.{kindOf, isTooLarge, Defined, define, Built, follow, buildFrom, mostWords, build, answered, built, buildAnswer}
 use Rattle.canon.proofs.Tests.{impossible}
-use Rattle.canon.proofs.Refusals.{Product, aRecord, aTuple, Passes, refused-six}
+use Rattle.canon.proofs.Refusals.{Passes, define-six, six-passes, Product, product-passes, refused-six}
 use Rattle.canon.proofs.Built.{build-keeps, Sound, keeps-step}
 use Rattle.canon.specs.Placement.{NoPlacement}
 
@@ -70,17 +70,21 @@ module _ (ws t : List ℕ) {left : ℕ} {ts : List Ty} {w : ℕ} {vs : List ℕ}
           (λ e. absurd (never (length (after (is d) .types)) (after (is d) .stopped) l e), λ e. impossible (cc))
       go (refuses y) = (λ e. let p : y ≡ x = cc in ap refuses p, λ e. let p : y ≡ x = cc in ap (λ (z : ℕ). refused z (length ts)) p)
 
--- a definition that a build comes to and that is refused with the number x
-pub record StopsAt (room : ℕ) (ws : List ℕ) (x : ℕ) : Type 0 where
+-- a definition that a build comes to
+pub record ComesTo (room : ℕ) (ws : List ℕ) : Type 0 where
   pub left : ℕ
   pub types : List Ty
   pub word : ℕ
   pub rest : List ℕ
   pub comes : Comes room ws (suc left) types (word ∷ rest)
-  pub refusal : define types word rest ≡ refuses x
+
+abbrev pub defined : {room : ℕ} {ws : List ℕ} → ComesTo room ws → Leaf Defined
+defined d = define (d .types) (d .word) (d .rest)
 
 -- a build that stops for another reason than room stops at a definition
-finds : {room : ℕ} {ws : List ℕ} (x left : ℕ) (ts : List Ty) (vs : List ℕ) → (x ≡ noRoom → ⊥) → Comes room ws left ts vs → buildFrom left ts vs .stopped ≡ some x → StopsAt room ws x
+finds :
+    {room : ℕ} {ws : List ℕ} (x left : ℕ) (ts : List Ty) (vs : List ℕ) → (x ≡ noRoom → ⊥) → Comes room ws left ts vs →
+    buildFrom left ts vs .stopped ≡ some x → (d : ComesTo room ws) × (defined d ≡ refuses x)
 unfolding buildFrom
 finds x zero ts [] n c e = impossible (cc)
 finds x zero ts (w ∷ vs) n c e = let p : x ≡ noRoom = cc in absurd (n p)
@@ -88,12 +92,12 @@ finds x (suc left) ts [] n c e = impossible (cc)
 finds {room} {ws} x (suc left) ts (w ∷ vs) n c e = go (define ts w vs) refl e (λ us rest. finds x left us rest n)
   where
     go : (l : Leaf Defined) → define ts w vs ≡ l → follow ts vs l (λ ts′ ws′. buildFrom left ts′ ws′) .stopped ≡ some x →
-        ((us : List Ty) (rest : List ℕ) → Comes room ws left us rest → buildFrom left us rest .stopped ≡ some x → StopsAt room ws x) →
-        StopsAt room ws x
+        ((us : List Ty) (rest : List ℕ) → Comes room ws left us rest → buildFrom left us rest .stopped ≡ some x → (d : ComesTo room ws) × (defined d ≡ refuses x)) →
+        (d : ComesTo room ws) × (defined d ≡ refuses x)
     go (is d) p e more = more (ts ++ d .type ∷ []) (drop (d .length) vs) (passes c p) e
     go (refuses y) p e more =
         let q : y ≡ x = cc in
-        record { left = left; types = ts; word = w; rest = vs; comes = c; refusal = p ∙ ap refuses q }
+        (record { left = left; types = ts; word = w; rest = vs; comes = c }, p ∙ ap refuses q)
 
 stopped-some : (n i x : ℕ) (o : Option ℕ) → answered n o ≡ refused x i → o ≡ some x
 stopped-some n i x none e = impossible (cc)
@@ -103,45 +107,38 @@ stopped-some n i x (some y) e = let q : y ≡ x = cc in ap some q
 pub stopped-at :
     (ws t : List ℕ) (x i : ℕ) → (x ≡ tooLong → ⊥) → (x ≡ noRoom → ⊥) →
     (buildAnswer ws t ≡ refused x i)
-    ↔ ((length ws ≤ mostWords) × (s : StopsAt (capacity (length t)) ws x) × (length (s .types) ≡ i))
+    ↔ ((length ws ≤ mostWords) × (d : ComesTo (capacity (length t)) ws) × (length (d .types) ≡ i) × (defined d ≡ refuses x))
 unfolding buildAnswer build
 stopped-at ws t x i long room = (
   λ e. elim (decLe (length ws) mostWords) [
     | yes h ↦
         let s = finds x (capacity (length t)) [] ws room begins (stopped-some _ i x _ (rw (short-build ws t h) at e)) in
-        let p : buildAnswer ws t ≡ refused x (length (s .types)) = at-definition ws t (s .comes) x h .1 (s .refusal) in
-        (h, s, cc)
+        let p : buildAnswer ws t ≡ refused x (length (s .0 .types)) = at-definition ws t (s .0 .comes) x h .1 (s .1) in
+        (h, s .0, cc, s .1)
     | no h ↦ let f = rw (lt-ltb mostWords (length ws) (omega arith)) at e in let p : x ≡ tooLong = cc in absurd (long p)
   ],
-  λ s. rw (← (s .2)) (at-definition ws t (s .1 .comes) x (s .0) .1 (s .1 .refusal)),
+  λ s. rw (← (s .2)) (at-definition ws t (s .1 .comes) x (s .0) .1 (s .3)),
 )
 
--- Demand 3
+-- Too large
 
+-- 6 at i exactly when the definition after i types passes every check before and is too large for the 64-bit memory; so never on
+-- account of the 32-bit memory alone
 pub stopped-six :
     (ws t : List ℕ) (i : ℕ) →
     (buildAnswer ws t ≡ refused tooLarge i)
-    ↔ ((length ws ≤ mostWords) × (s : StopsAt (capacity (length t)) ws tooLarge) × (length (s .types) ≡ i))
-stopped-six ws t i = stopped-at ws t tooLarge i (λ e. omega arith) (λ e. omega arith)
+    ↔ ((length ws ≤ mostWords) × (d : ComesTo (capacity (length t)) ws) × (length (d .types) ≡ i)
+    × (u : Ty) × Passes (d .types) (d .word) (d .rest) u × (isTooLarge mem64 u ≡ true))
+stopped-six ws t i =
+    let stops = stopped-at ws t tooLarge i (λ e. omega arith) (λ e. omega arith) in (
+      λ e.
+          let s = stops .0 e in
+          let p = six-passes (s .1 .types) (s .1 .word) (s .1 .rest) (s .3) in
+          (s .0, s .1, s .2, p .0, p .1, define-six (p .1) .0 (s .3)),
+      λ s. stops .1 (s .0, s .1, s .2, define-six (s .4) .1 (s .5)),
+    )
 
--- a record or tuple that is refused as too large passed every check before
-passed :
-    {k : Kind} {type : Members → Ty} → Product k type → (ts : List Ty) (w : ℕ) (vs : List ℕ) → kindOf w ≡ some k →
-    (b : Bool) (o : Option Members) →
-    ltb (length vs) (bodyLength (shapeOf k) (getD vs 0 0)) ≡ b →
-    membersOf ts (drop 1 (take (bodyLength (shapeOf k) (getD vs 0 0)) vs)) ≡ o →
-    cond b (refuses truncated) (checked (bodyLength (shapeOf k) (getD vs 0 0)) (mapOption type o)) ≡ refuses tooLarge →
-    (us : Members) × Passes ts w vs us
-unfolding checked
-passed p ts w vs known true o h n e = absurd (impossible (cc))
-passed p ts w vs known false none h n e = absurd (impossible (cc))
-passed {k} {type} p ts w vs known false (some us) h n e =
-    (us, record { kind = k; type = type; product = p; known = known; whole = ltb-false (length vs) (bodyLength (shapeOf k) (getD vs 0 0)) h; named = n })
-
-six-passes : {k : Kind} {type : Members → Ty} → Product k type → (ts : List Ty) (w : ℕ) (vs : List ℕ) → kindOf w ≡ some k → define ts w vs ≡ refuses tooLarge → (us : Members) × Passes ts w vs us
-unfolding bodied typeOf
-six-passes aRecord ts w vs known e = passed aRecord ts w vs known _ _ refl refl (rw known at e)
-six-passes aTuple ts w vs known e = passed aTuple ts w vs known _ _ refl refl (rw known at e)
+-- Demand 3
 
 -- 6 at a record or tuple exactly when it passes the earlier checks and one of the two memories admits no placement
 pub build-six :
@@ -151,11 +148,11 @@ pub build-six :
     kindOf w ≡ some k →
     length ws ≤ mostWords →
     (buildAnswer ws t ≡ refused tooLarge (length ts))
-    ↔ ((us : Members) × Passes ts w vs us × (NoPlacement (members mem32 us) ⊎ NoPlacement (members mem64 us)))
-build-six ws t {ts = ts} {w} {vs} c p known short = (
+    ↔ ((us : Members) × Passes ts w vs (type us) × (NoPlacement (members mem32 us) ⊎ NoPlacement (members mem64 us)))
+build-six ws t {ts = ts} {w} {vs} {type = type} c product known short = (
   λ e.
       let d = at-definition ws t c tooLarge short .0 e in
-      let q = six-passes p ts w vs known d in
-      (q .0, q .1, refused-six (q .1) .0 d),
-  λ q. at-definition ws t c tooLarge short .1 (refused-six (q .1) .1 (q .2)),
+      let p = product-passes product known (six-passes ts w vs d .1) in
+      (p .0, p .1, refused-six product (p .0) (p .1) .0 d),
+  λ q. at-definition ws t c tooLarge short .1 (refused-six product (q .0) (q .1) .1 (q .2)),
 )

@@ -1,6 +1,6 @@
 -- Demand 3: ours is a placement, and none is tighter; the greatest alignment is the least common multiple.
 use mathlib.Core.Path.{_≡_}
-use mathlib.Core.List.{List, [], _∷_}
+use mathlib.Core.List.{List, [], _∷_, Forall₂·nil as empty, Forall₂·cons as pair}
 use Prim.Native.Nat.{ℕ, _+_, _≤_, _<_, _∣_, max}
 use native.Mathlib.Nat.{le-of-dvd, dvd-trans, le-max-left, le-max-right, le-antisymm}
 use native.Mathlib.Omega.{arith}
@@ -90,11 +90,11 @@ earliest :
     Placed e′ fs ss l →
     NoneLater (starts e fs) ss × (lastEnd e fs ≤ l)
 unfolding starts lastEnd
-earliest e w h done = (tt, h)
+earliest e w h done = (empty, h)
 earliest e w h (next {s = s} {f = f} d le s< e< p) =
     let st : roundUp e (f .align) ≤ s = roundUp-least e (f .align) s (alignment-pos (w .0)) (omega arith) d in
     let r = earliest (roundUp e (f .align) + f .size) (w .1) (omega arith) p in
-    ((st, r .0), r .1)
+    (pair st (r .0), r .1)
 
 -- no placement starts a member earlier than ours, or is smaller
 pub tightest :

@@ -1,5 +1,5 @@
 -- What a placement is, as the tender's third demand words it: a relation over any starts and any size, ours or not.
-use mathlib.Core.List.{List, [], _∷_}
+use mathlib.Core.List.{List, [], _∷_, Forall₂}
 use Prim.Native.Nat.{ℕ, _+_, _≤_, _<_, _∣_}
 use Rattle.canon.specs.Layout.{Layout}
 
@@ -41,7 +41,4 @@ NoPlacement fs = (starts : List ℕ) (size : ℕ) → ¬ Placement fs starts siz
 
 -- no start of the first list is later than its fellow of the second
 abbrev pub NoneLater : List ℕ → List ℕ → Type 0
-NoneLater [] [] = Unit {0}
-NoneLater [] (t ∷ ts) = ⊥
-NoneLater (s ∷ ss) [] = ⊥
-NoneLater (s ∷ ss) (t ∷ ts) = (s ≤ t) × NoneLater ss ts
+NoneLater = Forall₂ _≤_

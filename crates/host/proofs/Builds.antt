@@ -3,7 +3,6 @@
 use mathlib.Core.Path.{_≡_, refl, sym, ap, _∙_}
 use mathlib.Core.Bool.{Bool, true, false, cond}
 use mathlib.Core.List.{List, [], _++_, map}
-use mathlib.Core.Option.{Option, none, some}
 use Prim.Native.Nat.{ℕ, zero, suc, _*_, _/_, _%_, _≤_, _<_, min}
 use native.Mathlib.Nat.{zero-add}
 use native.Mathlib.Omega.{arith}
@@ -11,6 +10,7 @@ use lib.ListN.{length, getD, take, drop, length-take, length-map, take-append-dr
 use lib.Seq.{take-suc, take-all, length-take-le}
 use borrow.Author.Tests.{le-ltb}
 use Rattle.build.specs.Means.{accepted}
+use Rattle.build.proofs.Accepted.{accepted-types}
 use Rattle.canon.specs.Answer.{Answer, unless, tooLong, truncated}
 use Rattle.canon.specs.Description.{Built, answered, built, buildAnswer, tableAfter}
 use Rattle.canon.specs.Placement.{Every}
@@ -134,10 +134,6 @@ rows-given rs t u full h l (suc n) m = more (rows-given rs t u full h l n (omega
         ∙ sym (putRows-snoc (capacity (length u)) 0 (take n rs) (getD rs n []) u)
         ∙ ap (λ (xs : List (List ℕ)). putRows (capacity (length u)) 0 xs u) (sym (take-suc rs n [] (omega arith)))
 
-accepted-is : (n : ℕ) (o : Option ℕ) → accepted (answered n o) ≡ n
-accepted-is n none = refl
-accepted-is n (some x) = refl
-
 -- the room of the first words of a local table
 pub local-room : (r n : ℕ) (l : List ℕ) → r ≡ 16 * min 32 (capacity n) → length l ≡ 512 → capacity (length (take r l)) ≡ min 32 (capacity n)
 unfolding capacity
@@ -157,12 +153,12 @@ module _ (ws t b : List ℕ) (short : length ws ≤ 64) (fits : capacity (length
   local-answer = ap (λ (x : Built). answered (length (x .types)) (x .stopped)) same
 
   pub local-rows : withRows (tableAfter ws t) (accepted (buildAnswer ws t)) (wholeWords b) ≡ tableAfter ws (wholeWords b)
-  unfolding buildAnswer tableAfter
+  unfolding tableAfter
   local-rows =
       let types = built ws t .types in
       let rs = map rowOf types in
       let few : length rs ≤ capacity (length t) = omega (arith, length-map types rowOf, built-sound ws t .fits) in
-      ap (λ (n : ℕ). withRows (putRows (capacity (length t)) 0 rs t) n (wholeWords b)) (accepted-is (length types) (built ws t .stopped))
+      ap (λ (n : ℕ). withRows (putRows (capacity (length t)) 0 rs t) n (wholeWords b)) (accepted-types ws t)
       ∙ rows-given rs t (wholeWords b) (every-sixteen types) few (omega (arith, room)) (length types) (omega (arith, length-map types rowOf))
       ∙ ap (λ (xs : List (List ℕ)). putRows (capacity (length (wholeWords b))) 0 xs (wholeWords b)) (take-all (length types) rs (omega (arith, length-map types rowOf)))
       ∙ ap (λ (x : Built). putRows (capacity (length (wholeWords b))) 0 (map rowOf (x .types)) (wholeWords b)) same

@@ -1,7 +1,6 @@
 -- The lines of a built table are those of canon's rows.
 use mathlib.Core.Path.{_≡_, refl, sym, ap, ap₂, _∙_}
 use mathlib.Core.List.{List, [], _∷_, _++_, append-assoc, append-nil, map}
-use mathlib.Core.Option.{Option, none, some}
 use Prim.Native.Nat.{ℕ, zero, suc, _+_, _/_, _%_, _≤_, _<_, min}
 use native.Mathlib.Nat.{add-zero}
 use native.Mathlib.Numerals.{add-one}
@@ -10,8 +9,9 @@ use borrow.Author.Tests.{lt-ltb, le-ltb, eq-eqb, ne-eqb}
 use lib.ListN.{length, getD, take, drop, length-map}
 use lib.Seq.{take-suc, take-all, length-take-le}
 use Rattle.build.specs.Means.{accepted}
+use Rattle.build.proofs.Accepted.{accepted-types}
 use Rattle.canon.specs.Answer.{Answer, refused}
-use Rattle.canon.specs.Description.{build, answered, built, buildAnswer, tableAfter}
+use Rattle.canon.specs.Description.{build, built, buildAnswer, tableAfter}
 use Rattle.canon.specs.Row.{rowOf}
 use Rattle.canon.specs.Table.{capacity, putRows}
 use Rattle.canon.specs.Types.{Ty}
@@ -63,21 +63,13 @@ module _ (ws t : List ℕ) where
       ∙ row-at room (length t) (map rowOf types) t j (room-fits (length t) .1) (every-sixteen types) (omega (arith, length-map types rowOf, s .fits)) refl
       (omega (arith, length-map types rowOf))
 
-  rows-answered : accepted (buildAnswer ws t) ≡ length types
-  unfolding buildAnswer
-  rows-answered = go (built ws t .stopped)
-    where
-      go : (s : Option ℕ) → accepted (answered (length types) s) ≡ length types
-      go none = refl
-      go (some x) = refl
-
   pub few-rows : {a : Answer ℕ} → a ≡ buildAnswer ws t → accepted a ≤ 1024
-  few-rows e = rw e (omega (arith, rows-answered, built-sound ws t .fits, room-fits (length t) .0))
+  few-rows e = rw e (omega (arith, accepted-types ws t, built-sound ws t .fits, room-fits (length t) .0))
 
   lines-told : tableLines (tableAfter ws t) (accepted (buildAnswer ws t)) ≡ rowLines 0 (map rowOf types)
   lines-told =
       let n : length (map rowOf types) ≡ length types = length-map types rowOf in
-      rw rows-answered
+      rw (accepted-types ws t)
       (lines-are (map rowOf types) (tableAfter ws t) (length types) (omega arith) row-told
       ∙ ap (rowLines 0) (take-all (length types) (map rowOf types) (omega arith)))
 

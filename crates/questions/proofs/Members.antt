@@ -13,12 +13,14 @@ use lib.ListN.{length, getD, take, drop, set, length-append}
 use lib.Seq.{drop-cons, take-suc, take-suc-set, length-take-le, set-at}
 use borrow.Author.Tests.{lt-ltb, le-ltb}
 use Rattle.canon.specs.Answer.{Answer, ok, refused, then}
-use Rattle.canon.specs.Layout.{Memory, within, Layout, roundUp, starts, lastEnd, greatestAlign, recordSize, recordLayout, largestNumber}
+use Rattle.canon.specs.Layout.{Memory, within, Layout, roundUp, starts, lastEnd, greatestAlign, recordSize, largestNumber}
 use Rattle.canon.specs.Row.{Info}
 use Rattle.canon.specs.Question.{firstOver, orSize, refusedAt, Placing, judged, placed, layoutsIn, bufferAfter}
 use Rattle.canon.proofs.Tests.{impossible}
 use Rattle.canon.proofs.Rounding.{Alignment, le-roundUp, alignment-pos}
 use Rattle.canon.proofs.Tightest.{Aligned, le-recordSize, greatestAlign-alignment}
+use Rattle.canon.proofs.Wider.{starts-append}
+use Rattle.canon.proofs.Refusals.{placed-is}
 use Rattle.canon.specs.Placement.{fourGiB}
 use Rattle.types.specs.Extents.{extentAt, memberOf, closeOf, isLarge}
 use Rattle.types.specs.declared.extent.Extent.{Extent}
@@ -64,11 +66,6 @@ end-more : (e : ℕ) (fs : List Layout) (f : Layout) → lastEnd e (fs ++ f ∷ 
 unfolding lastEnd
 end-more e [] f = refl
 end-more e (g ∷ fs) f = end-more (roundUp e (g .align) + g .size) fs f
-
-starts-more : (e : ℕ) (fs : List Layout) (f : Layout) → starts e (fs ++ f ∷ []) ≡ starts e fs ++ roundUp (lastEnd e fs) (f .align) ∷ []
-unfolding starts lastEnd
-starts-more e [] f = refl
-starts-more e (g ∷ fs) f = ap (λ (l : List ℕ). roundUp e (g .align) ∷ l) (starts-more (roundUp e (g .align) + g .size) fs f)
 
 -- the first of two
 abbrev orElse : Option ℕ → Option ℕ → Option ℕ
@@ -184,7 +181,8 @@ module _ (p : Placed) (fs : List Layout) (k : ℕ) (s : Stands p fs k) where
         ∙ rw n (mod-eq-of-lt (omega arith))
 
     pub staged-last : (os : List ℕ) → Staged os fs → Staged (os ++ q .offset ∷ []) more
-    staged-last os t g = rw (starts-more, t (earlier g), starts-at g)
+    unfolding starts
+    staged-last os t g = rw (starts-append 0 fs (f ∷ []), t (earlier g), starts-at g)
 
     pub staged-more : (stage : List ℕ) → Staged (take k stage) fs → k < length stage → Staged (take (k + 1) (set stage k (q .offset))) more
     staged-more stage t l = rw (add-one k, take-suc-set stage k (q .offset) l) (staged-last (take k stage) t)
@@ -194,10 +192,6 @@ module _ (p : Placed) (fs : List Layout) (k : ℕ) (s : Stands p fs k) where
   closes : closeOf (p .extent) ≡ extentAt (recordSize fs) (greatestAlign fs)
   unfolding recordSize
   closes = ap closeOf (s .extent) ∙ close-reach (lastEnd 0 fs) (greatestAlign fs) (greatestAlign-alignment fs (s .aligned))
-
-  size-fits : recordSize fs ≤ largestNumber → refusedAt fs ≡ none
-  unfolding refusedAt orSize
-  size-fits h = rw (s .within (omega (arith, le-recordSize fs (s .aligned))), le-ltb largestNumber (recordSize fs) h)
 
   pub finish-is : finished p ≡ layoutPart (placed fs)
   unfolding finished placed judged refusedAt orSize then
@@ -211,19 +205,10 @@ module _ (p : Placed) (fs : List Layout) (k : ℕ) (s : Stands p fs k) where
       ]
 
   -- an accepted placement is of canon's starts, and all of them fit
-  pub placed-is : (q : Placing) → placed fs ≡ ok q → (q .offsets ≡ starts 0 fs) × (lastEnd 0 fs ≤ largestNumber)
-  unfolding placed judged refusedAt orSize
-  placed-is q e =
-      elim (decLe (lastEnd 0 fs) largestNumber) [
-        | no l ↦ let b = s .beyond (omega arith) in impossible (cc)
-        | yes l ↦ elim (decLe (recordSize fs) largestNumber) [
-          | yes h ↦
-              let r = size-fits h in
-              let x : record { layout = recordLayout fs; offsets = starts 0 fs } ≡ q = cc in
-              (sym (ap (λ (y : Placing). y .offsets) x), l)
-          | no h ↦ let w = s .within l in let b = lt-ltb largestNumber (recordSize fs) (omega arith) in impossible (cc)
-        ]
-      ]
+  pub placed-starts : (q : Placing) → placed fs ≡ ok q → (q .offsets ≡ starts 0 fs) × (lastEnd 0 fs ≤ largestNumber)
+  placed-starts q e =
+      let r = placed-is fs q (s .aligned) e in
+      (sym (ap (λ (y : Placing). y .offsets) (r .0)), omega (arith, r .1, le-recordSize fs (s .aligned)))
 
 -- what was put in front of the buffer is what an accepted placement leaves there
 pub written :
@@ -231,8 +216,3 @@ pub written :
     a ≡ ok p → p .offsets ≡ os → length os ≡ n → after ≡ os ++ drop n out → after ≡ bufferAfter a out
 unfolding bufferAfter
 written a p os out after n e f l w = rw (e, f, l) w
-
-pub length-starts : (e : ℕ) (fs : List Layout) → length (starts e fs) ≡ length fs
-unfolding starts
-length-starts e [] = refl
-length-starts e (f ∷ fs) = ap suc (length-starts (roundUp e (f .align) + f .size) fs)

@@ -1,11 +1,14 @@
 -- What the promises say of the standard: a placement answered is the tightest, one refused as too large exists in no form, and on a table that
--- a build wrote each question answers for the types themselves.
+-- a build wrote each question answers for the types themselves. Of one list in the two memories, that the wider is never the smaller; of one with
+-- references appended, that no offset before them moves.
 use mathlib.Core.Path.{_≡_, refl, sym, ap, _∙_}
 use mathlib.Core.Logic.{_↔_}
-use mathlib.Core.List.{List, _++_, map}
+use mathlib.Core.List.{List, _++_, map, append-assoc}
 use mathlib.Core.Option.{some}
 use Prim.Native.Nat.{ℕ, _≤_}
 use lib.ListN.{length, take, drop}
+use lib.Seq.{take-at}
+use lib.Dec.{ltb}
 use borrow.Author.Tests.{le-ltb}
 use denote.Ref.{RefT, now, at-last}
 use contract.Lifetimes.{Lfts}
@@ -17,15 +20,19 @@ use Rattle.canon.specs.Reach.{reachWord}
 use Rattle.canon.specs.Row.{Info, infoOf}
 use Rattle.canon.specs.Description.{reference, built, tableAfter}
 use Rattle.canon.specs.Question.{ask, typeAnswer, sizeAlignAnswer, layoutsIn, Placing, placed, placing, placementAnswer, bufferAfter, offsetsAfter}
-use Rattle.canon.specs.Placement.{NoPlacement}
+use Rattle.canon.specs.Placement.{NoPlacement, NoneLater}
+use Rattle.canon.proofs.Wider.{_≼_}
 use Rattle.canon.proofs.Tests.{impossible}
 use Rattle.canon.proofs.Refusals.{Tightest}
 use Rattle.canon.proofs.Questions.{Reads, placing-six, placing-tightest, Names, type-built, ask-built, layouts-typed, flatTypes, flats-typed}
-use Rattle.canon.proofs.Questions.{reachTypes, reaches-typed}
-use Rattle.types.specs.Means.{memoryOf, layoutMeans}
+use Rattle.canon.proofs.Questions.{reachTypes, reaches-typed, offsets-begin, Beside, beside-accepted, beside-refused, placing-beside}
+use Rattle.canon.proofs.Capped.{offsets-length, offsets-written}
+use Rattle.types.specs.Means.{numberOf, memoryOf, layoutMeans}
+use Rattle.types.specs.declared.refusal.Refusal.{Refusal}
 use Rattle.types.specs.declared.refusal.Refusal.the-variants.{TooLarge}
 use Rattle.types.specs.declared.extent.Layout.{Layout}
 use Rattle.types.specs.declared.memory.Memory.{Memory}
+use Rattle.types.specs.declared.memory.Memory.the-variants.{Memory32, Memory64}
 use Rattle.flat_types.specs.Lists.{packed}
 use Rattle.table.specs.declared.info.MemberPosition.{MemberPosition}
 use Rattle.questions.specs.Means.{typeMeans, layoutAnswerMeans, gatheredMeans}
@@ -121,3 +128,61 @@ module _ (m : Memory) (t : RefT (List ℕ)) (n : ℕ) (refs : RefT (List ℕ)) (
     unfolding placementAnswer offsetsAfter
     placed-of κs o r l fits h =
         (h .0 ∙ rw (placing-of (length (now o)) fits), h .1 ∙ rw (placing-of (length (now o)) fits))
+
+-- One list of references placed in both memories, over a table that a build wrote, both buffers with room for the offsets or neither
+
+module _
+    (κs κs′ : Lfts 3) (t refs o o′ : RefT (List ℕ)) (n : ℕ) (ws t₀ : List ℕ) (r r′ : LayoutAnswer) (l l′ : List ℕ)
+    (table : now t ≡ tableAfter ws t₀) (rows : n ≤ length (built ws t₀ .types))
+    (room : ltb (length (now o)) (length (now refs)) ≡ ltb (length (now o′)) (length (now refs)))
+    (narrow : placement.Post κs (Memory32, (t, (n, (refs, (o, tt))))) r (Memory32, (t, (n, (refs, (at-last o l, tt))))))
+    (wide : placement.Post κs′ (Memory64, (t, (n, (refs, (o′, tt))))) r′ (Memory64, (t, (n, (refs, (at-last o′ l′, tt))))))
+  where
+    beside : Beside (placing mem32 (now t) n (now refs) (length (now o))) (placing mem64 (now t) n (now refs) (length (now o′)))
+    beside = rw table (placing-beside ws t₀ n (now refs) (length (now o)) (length (now o′)) rows room)
+
+    -- what 64 accepts, 32 accepts: no larger, and no offset later
+    pub narrow-accepts :
+        (g : Layout) → r′ ≡ answer.Layout g →
+        (f : Layout) × (r ≡ answer.Layout f) × (layoutMeans f ≼ layoutMeans g) × NoneLater (take (length (now refs)) l) (take (length (now refs)) l′)
+    unfolding placementAnswer offsetsAfter then
+    narrow-accepts g e =
+        let b = answered (placing mem64 (now t) n (now refs) (length (now o′))) (layoutMeans g) (now o′) l′ (sym (ap layoutAnswerMeans e) ∙ wide .0) (wide .1) in
+        let p = beside-accepted beside (b .1) in
+        let f : Layout = record { size = p .0 .layout .size; align = p .0 .layout .align } in
+        let u : take (length (now refs)) l ≡ p .0 .offsets = ap (take (length (now refs))) (narrow .1) ∙ offsets-written mem32 (now t) n (now refs) (now o) (p .0) (p .1) in
+        let v : take (length (now refs)) l′ ≡ b .0 = ap (take (length (now refs))) (wide .1) ∙ offsets-written mem64 (now t) n (now refs) (now o′) _ (b .1) in (
+          f,
+          told layoutAnswerMeans layoutAnswerOf layout-back r (answer.Layout f) (narrow .0 ∙ ap layoutPart (p .1)),
+          p .2,
+          rw (u, v) (p .3),
+        )
+
+    -- what 32 refuses, 64 refuses with the same number
+    pub wide-refuses : (x : Refusal) (p : MemberPosition) → r ≡ answer.Refused x p → (q : MemberPosition) × (r′ ≡ answer.Refused x q)
+    unfolding placementAnswer then
+    wide-refuses x p e =
+        let a = refusal-passes (placing mem32 (now t) n (now refs) (length (now o))) (numberOf x) (p .0) (sym (ap layoutAnswerMeans e) ∙ narrow .0) in
+        let j = beside-refused beside a in
+        (record { 0 = j .0 }, told layoutAnswerMeans layoutAnswerOf layout-back r′ (answer.Refused x (record { 0 = j .0 })) (wide .0 ∙ ap layoutPart (j .1)))
+
+-- Two lists in one memory, one the other with references appended, over any table
+
+module _
+    (κs κs′ : Lfts 3) (m : Memory) (t refs refs′ o o′ : RefT (List ℕ)) (n : ℕ) (vs : List ℕ) (f g : Layout) (l l′ : List ℕ)
+    (appended : now refs′ ≡ now refs ++ vs)
+    (fewer : placement.Post κs (m, (t, (n, (refs, (o, tt))))) (answer.Layout f) (m, (t, (n, (refs, (at-last o l, tt))))))
+    (all : placement.Post κs′ (m, (t, (n, (refs′, (o′, tt))))) (answer.Layout g) (m, (t, (n, (refs′, (at-last o′ l′, tt))))))
+  where
+    -- no offset before them moves
+    pub offsets-kept : take (length (now refs)) l′ ≡ take (length (now refs)) l
+    unfolding placementAnswer offsetsAfter
+    offsets-kept =
+        let a = answered (placing (memoryOf m) (now t) n (now refs) (length (now o))) (layoutMeans f) (now o) l (fewer .0) (fewer .1) in
+        let b = answered (placing (memoryOf m) (now t) n (now refs′) (length (now o′))) (layoutMeans g) (now o′) l′ (all .0) (all .1) in
+        let c = offsets-begin (memoryOf m) (now t) n (now refs) vs (length (now o)) (length (now o′)) _ _ (a .1) (sym (ap (λ (x : List ℕ). placing (memoryOf m) (now t) n x (length (now o′))) appended) ∙ b .1) in
+        let k : length (a .0) ≡ length (now refs) = offsets-length (memoryOf m) (now t) n (now refs) (length (now o)) _ (a .1) in
+        let rest = drop (length (b .0)) (now o′) in
+        ap (take (length (now refs))) (b .2 ∙ ap (λ (x : List ℕ). x ++ rest) (c .1) ∙ append-assoc (a .0) (c .0) rest)
+        ∙ take-at (a .0) (c .0 ++ rest) (length (now refs)) k
+        ∙ sym (ap (take (length (now refs))) (a .2) ∙ take-at (a .0) _ (length (now refs)) k)

@@ -3,7 +3,7 @@ use crate::calls::{Leaf, Question, WRITTEN};
 use crate::faults::Fault;
 use crate::model::Row;
 use crate::original::{self, Outcome};
-use crate::port::{self, Answered, Call, Cell, Due, Lent, Port};
+use crate::port::{self, Answered, Call, Cell, Due, Function, Lent, Port};
 use crate::random::Random;
 use crate::tally::Tally;
 use crate::{encode, model, reading};
@@ -84,10 +84,7 @@ impl Run {
         let room = model::ROW * most + self.random.below(4) as usize;
         let model = self.model_build(words, room);
         let answer = model.answer;
-        let n = match encode::refusal(answer) {
-            0 => answer,
-            _ => answer & u64::from(u32::MAX),
-        };
+        let n = encode::accepted(answer);
         // Original and model first: they must agree before the port is judged by either.
         let (original, suspects) = self.original_of(words, n as usize, &model);
         let table = self.port_build(words, model);
@@ -279,13 +276,16 @@ impl Run {
                 let what = format!("row {index} of {words:?}");
                 difference(&what, "original", &said, "model", &row)
             });
+            Fault::OriginalMemories.exchange(self.fault, &mut said);
+            self.tally.original_row(&said);
         }
         if encode::refusal(model.answer) == 6 {
             let next = original.build(words, accepted + 1);
             let panicked = next == Err(Stopped::Panicked(accepted));
+            // Order 14: never on account of the 32-bit memory alone.
             let saturated = next == Ok(accepted + 1) && {
                 let row = original.row(accepted);
-                row[0] == 10 && (row[1] == u32::MAX || row[3] == u32::MAX)
+                row[0] == 10 && row[3] == u32::MAX
             };
             self.tally.overflow(panicked, saturated, || {
                 let what = format!("definition {accepted} of {words:?}");
@@ -400,6 +400,15 @@ fn judge_port(tally: &mut Tally, fault: Option<Fault>, mut answered: Answered) {
         let memory = first_difference(&answered);
         format!("{call:?}\n    port: {answer:#x}\n    model: {said:#x}\n    {memory}")
     });
+    if same && answered.call.function == Function::Build {
+        let lent = &answered.after[0];
+        let table = model::words_of(&lent[4 * GUARD..lent.len() - 4 * GUARD]);
+        for index in 0..encode::accepted(said) as usize {
+            let mut row = model::row(&table, index);
+            Fault::PortMemories.exchange(fault, &mut row);
+            tally.port_row(&row);
+        }
+    }
 }
 
 fn first_difference(answered: &Answered) -> String {

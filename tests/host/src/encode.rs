@@ -16,6 +16,14 @@ pub fn refusal(answer: u64) -> u64 {
     answer >> 56
 }
 
+/// How many definitions a build accepted: its count, or the index of the refused one.
+pub fn accepted(answer: u64) -> u64 {
+    match refusal(answer) {
+        0 => answer,
+        _ => answer & u64::from(u32::MAX),
+    }
+}
+
 /// Size in the low 32 bits, alignment in bits 32 to 39.
 pub fn layout(size: u64, align: u64) -> u64 {
     size | align << 32

@@ -1,7 +1,8 @@
-//! Faults put into the port's answers, or the original's, to show that the comparison catches them.
+//! Faults put into the port's answers or the original's, or into the rows of either that are tested by
+//! themselves, to show that each is caught.
 use crate::compare::GUARD;
 use crate::encode;
-use crate::model::MOST_WORDS;
+use crate::model::{BY_MEMORY, MOST_WORDS, Row};
 use crate::port::{Answered, Call, Cell, Function};
 
 /// What is wrong on purpose.
@@ -39,13 +40,17 @@ pub enum Fault {
     OtherHalf,
     /// Rounding gives one alignment too much at a multiple.
     Rounding,
+    /// The port's built rows have the memories exchanged, after the comparison, so that they agree with the model.
+    PortMemories,
+    /// The same of the original's.
+    OriginalMemories,
     /// The original's rows have a size one too great.
     OriginalSize,
     /// The original's lists have another first type.
     OriginalList,
 }
 
-pub const FAULTS: [Fault; 18] = [
+pub const FAULTS: [Fault; 20] = [
     Fault::OffsetOneOff,
     Fault::PositionOneOff,
     Fault::TableWord,
@@ -62,6 +67,8 @@ pub const FAULTS: [Fault; 18] = [
     Fault::LargeCount,
     Fault::OtherHalf,
     Fault::Rounding,
+    Fault::PortMemories,
+    Fault::OriginalMemories,
     Fault::OriginalSize,
     Fault::OriginalList,
 ];
@@ -166,7 +173,16 @@ impl Fault {
         }
     }
 
-    pub fn original_row(fault: Option<Fault>, row: &mut [u32; 16]) {
+    /// The two memories of a row exchanged, where this is the fault.
+    pub fn exchange(self, fault: Option<Fault>, row: &mut Row) {
+        if fault == Some(self) {
+            for (narrow, wide) in BY_MEMORY {
+                row.swap(narrow, wide);
+            }
+        }
+    }
+
+    pub fn original_row(fault: Option<Fault>, row: &mut Row) {
         if fault == Some(Fault::OriginalSize) {
             row[1] = row[1].wrapping_add(1);
         }

@@ -1,5 +1,6 @@
 //! What was compared and what differed, and the line that says so while a run goes on.
 use crate::coverage::Coverage;
+use crate::model::{self, Row};
 use std::io::{IsTerminal, Write};
 use std::time::{Duration, Instant};
 
@@ -17,6 +18,9 @@ pub struct Tally {
     /// enums and flags asked for by themselves: the oracle has stand-ins there, so they are not
     /// counted as equal to the Rust.
     pub apart: u64,
+    /// Rows that builds wrote, whose numbers for 64 were compared with those for 32.
+    pub port_rows: u64,
+    pub original_rows: u64,
     /// Where 01 refuses as too large: the original panicked, or gave 4294967295.
     pub panicked: u64,
     pub saturated: u64,
@@ -42,6 +46,8 @@ impl Tally {
             by_bytes: 0,
             original: 0,
             apart: 0,
+            port_rows: 0,
+            original_rows: 0,
             panicked: 0,
             saturated: 0,
             differences: 0,
@@ -68,6 +74,24 @@ impl Tally {
             false => self.original += 1,
         }
         self.consistent(same, report);
+    }
+
+    /// A row that a build of the port wrote.
+    pub fn port_row(&mut self, row: &Row) {
+        self.port_rows += 1;
+        self.never_smaller("port", row);
+    }
+
+    /// A row that a build of the original wrote.
+    pub fn original_row(&mut self, row: &Row) {
+        self.original_rows += 1;
+        self.never_smaller("original", row);
+    }
+
+    fn never_smaller(&mut self, whose: &str, row: &Row) {
+        self.consistent(model::never_smaller(row), || {
+            format!("a row of the {whose} is smaller for 64 than for 32: {row:?}")
+        });
     }
 
     pub fn overflow(&mut self, panicked: bool, saturated: bool, report: impl FnOnce() -> String) {
@@ -127,12 +151,15 @@ impl Tally {
     pub fn summary(&self) -> String {
         format!(
             "{} answers of the port compared with the model ({} by byte calls), {} of the original \
-             with the model, {} apart (stand-ins), {} refusals 6 where the original panicked and {} \
-             where it saturated, in {} s: {} differences",
+             with the model, {} apart (stand-ins), {} rows of the port and {} of the original compared in \
+             the two memories, {} refusals 6 where the original panicked and {} where it saturated, in {} \
+             s: {} differences",
             self.answers,
             self.by_bytes,
             self.original,
             self.apart,
+            self.port_rows,
+            self.original_rows,
             self.panicked,
             self.saturated,
             self.began.elapsed().as_secs(),

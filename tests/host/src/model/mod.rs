@@ -1,6 +1,6 @@
 //! The model: document 01 as plain Rust, the judge where the original has no answer.
 //!
-//! Written from 01 alone. It is meant to be believed on reading: sums in u64 that cannot wrap, lists
+//! Written from 01 alone, and from 02 where an order has landed. It is meant to be believed on reading: sums in u64 that cannot wrap, lists
 //! of core types as vectors, one function for each rule, no cleverness. The refusals, their order and
 //! their positions are 01's; what 01 leaves open is read as docs/DECISIONS.md says.
 
@@ -18,7 +18,7 @@ pub use description::build;
 pub use layout::Core;
 pub use leaf::leaf;
 pub use question::ask;
-pub use row::well_formed;
+pub use row::{BY_MEMORY, never_smaller, well_formed};
 pub use table::{Row, capacity, row, table_of};
 
 /// A call that was refused: 01's number, and the definition's index or the reference's position.

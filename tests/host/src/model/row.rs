@@ -85,6 +85,18 @@ pub fn well_formed(row: &Row) -> bool {
     read(row).is_ok()
 }
 
+/// The words that a row has once for each memory, the place for 32 and the place for 64: size, alignment, the
+/// payload's or value's offset, a map entry's size and alignment.
+pub const BY_MEMORY: [(usize, usize); 5] = [(1, 3), (2, 4), (9, 10), (11, 13), (12, 14)];
+
+/// Order 14: "each size and alignment for 64 is at least that for 32, .. so is each .. payload's offset". It
+/// holds of rows that a build wrote, not of every well-formed one.
+pub fn never_smaller(row: &Row) -> bool {
+    BY_MEMORY
+        .iter()
+        .all(|&(narrow, wide)| row[narrow] <= row[wide])
+}
+
 /// The rules for words 1 to 5, which an info given to a leaf must keep as well: the layouts, and the flat
 /// count or None.
 pub fn five_numbers(words: [u32; 5]) -> Result<([Layout; 2], Option<u64>), u64> {

@@ -16,7 +16,7 @@ use Rattle.types.specs.Means.{memoryOf, numberOf, layoutMeans}
 use Rattle.questions.specs.Means.{memberMeans}
 use Rattle.questions.specs.Steps.{nextPlace}
 use Rattle.questions.proofs.References.{part-is, Read, begins, goes-on, stops, ends}
-use Rattle.questions.proofs.Members.{layouts-more, Stands, Staged, nothing-stands, stands-more, staged-more, finish-is, placed-is}
+use Rattle.questions.proofs.Members.{layouts-more, Stands, Staged, nothing-stands, stands-more, staged-more, finish-is, placed-starts}
 use borrow.Author.Needs.{needs}
 use Rattle.questions.proofs.placing.fill.Statement.{statement}
 use Rattle.questions.proofs.placing.fill.Tie as tie
@@ -130,7 +130,7 @@ returns-2 c = let a = c .before .before .before .before .before .before .args in
     let fs = layoutsIn (memoryOf (a .memory)) done in
     let e = ends (read (now (a .table)) (a .n)) (now (a .references)) (l .k) done (l .inv .2 .1) (c .before .loop-test .left) in (
       rw e (c .finish .ensures ∙ finish-is (l .placed) fs (l .k) (l .inv .2 .2)),
-      λ p f. let q = placed-is (l .placed) fs (l .k) (l .inv .2 .2) p (rw e at f) in
+      λ p f. let q = placed-starts (l .placed) fs (l .k) (l .inv .2 .2) p (rw e at f) in
           rw (← le-antisymm (l .inv .0) (c .before .loop-test .left)) (q .0 ∙ sym (l .inv .2 .3 (q .1))),
     )
 

@@ -17,7 +17,7 @@ use Rattle.types.specs.Means.{memoryOf, numberOf, layoutMeans}
 use Rattle.questions.specs.Means.{memberMeans}
 use Rattle.questions.specs.Steps.{memberLayout, nextPlace, Remembers}
 use Rattle.questions.proofs.References.{part-is, Read, begins, goes-on, stops, ends}
-use Rattle.questions.proofs.Members.{layouts-more, Stands, nothing-stands, stands-more, finish-is, placed-is}
+use Rattle.questions.proofs.Members.{layouts-more, Stands, nothing-stands, stands-more, finish-is, placed-starts}
 use Rattle.questions.proofs.Memos.{known-all}
 use borrow.Author.Needs.{needs}
 use Rattle.questions.proofs.placing.judge.Statement.{statement}
@@ -127,7 +127,7 @@ returns-2 c = let a = c .before .before .before .before .before .before .args in
     let k = le-antisymm (l .inv .0) (c .before .loop-test .left) in
     let e = ends (read (now (a .table)) (a .n)) (now (a .references)) (l .k) done (l .inv .2 .1) (c .before .loop-test .left) in (
       rw e (c .finish .ensures ∙ finish-is (l .placed) fs (l .k) st),
-      λ p f. let q = placed-is (l .placed) fs (l .k) st p (rw e at f) in
+      λ p f. let q = placed-starts (l .placed) fs (l .k) st p (rw e at f) in
           let there = rw k at (l .inv .4) in
           let same = known-all m (now (a .table)) (a .n) (l .memo) (l .inv .3) 0 (now (a .references)) done e there in
           record { there = there; aligned = rw same (st .aligned); fits = rw same (q .1); offsets-are = rw same (q .0) },

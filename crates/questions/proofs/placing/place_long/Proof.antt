@@ -3,10 +3,11 @@ use mathlib.Core.Path.{refl, ap, sym, _∙_}
 use denote.Ref.{now}
 use lib.ListN.{length, length-map}
 use Rattle.canon.specs.Layout.{starts}
+use Rattle.canon.proofs.Capped.{starts-length}
 use Rattle.types.specs.Means.{memoryOf}
 use Rattle.questions.specs.Means.{layoutAnswerMeans}
 use Rattle.questions.specs.Steps.{memberLayout, known}
-use Rattle.questions.proofs.Members.{answered, untouched, written, length-starts}
+use Rattle.questions.proofs.Members.{answered, untouched, written}
 use Rattle.questions.proofs.Memos.{remembers-none}
 use borrow.Author.Needs.{needs}
 use Rattle.questions.proofs.placing.place_long.Statement.{statement}
@@ -47,7 +48,7 @@ returns c = let a = c .before .before .before .before .before .before .before .b
     record {
       answer = e;
       buffer = written _ (p .0) (starts 0 fs) _ _ (length (now (a .references))) (p .1) (f .ensures .1 (p .0) (p .1) .offsets-are)
-          (length-starts 0 fs ∙ length-map (now (a .references)) _) (c .before .before .write .ensures);
+          (starts-length 0 fs ∙ length-map (now (a .references)) _) (c .before .before .write .ensures);
     }
 
 returns-2 : tie.Need-returns-2
