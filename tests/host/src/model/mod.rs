@@ -1,8 +1,9 @@
 //! The model: document 01 as plain Rust, the judge where the original has no answer.
 //!
-//! Written from 01 alone, and from 02 where an order has landed. It is meant to be believed on reading: sums in u64 that cannot wrap, lists
-//! of core types as vectors, one function for each rule, no cleverness. The refusals, their order and
-//! their positions are 01's; what 01 leaves open is read as docs/DECISIONS.md says.
+//! Written from 01 alone, and from 02 where an order has landed. It is meant to be believed on reading:
+//! sums in u64 that cannot wrap, lists of core types as vectors, one function for each rule, no
+//! cleverness. The refusals, their order and their positions are 01's; what 01 leaves open is read as
+//! docs/DECISIONS.md says.
 
 mod bytes;
 mod description;
