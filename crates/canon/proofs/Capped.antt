@@ -9,11 +9,11 @@ use native.Mathlib.Decide.{decLe}
 use native.Mathlib.Omega.{arith}
 use lib.Dec.{leb, ltb}
 use lib.ListN.{length, take, drop, set, getElem?, length-set, length-take, length-drop, length-map, take-append-drop}
-use lib.Seq.{take-all, take-at, getD-take, set-append-left}
+use lib.Seq.{take-all, getD-take, set-append-left}
 use borrow.Author.Tests.{ltb-true, ltb-false, lt-ltb, le-ltb}
 use Rattle.canon.specs.Answer.{Leaf, is, no as refuses, Answer, ok, refused, then, unless, tooLong, badRef, badCount, noRoom, badRow}
-use Rattle.canon.specs.Layout.{Memory, Layout, starts}
-use Rattle.canon.specs.Row.{Info, infoLayout, rowOf}
+use Rattle.canon.specs.Layout.{Memory}
+use Rattle.canon.specs.Row.{Info, rowOf}
 use Rattle.canon.specs.Table.{capacity, place, cell, cellsFrom, rowAt, putFrom, putRows}
 use Rattle.canon.specs.Description.{kindOf, Defined, define, follow, buildFrom, mostWords, build, built, buildAnswer, tableAfter}
 use Rattle.canon.specs.Question.{plainInfo, readRow, read, infos, tooMany, noTable, ask, askTwo, layoutsIn, Placing, placed, placing, placementAnswer, bufferAfter, offsetsAfter}
@@ -22,7 +22,7 @@ use Rattle.canon.proofs.Tests.{neither}
 use Rattle.canon.proofs.Cells.{place-fits, room-fits, length-putFrom}
 use Rattle.canon.proofs.Built.{define-some, every-sixteen, built-sound}
 use Rattle.canon.specs.Placement.{Every}
-use Rattle.canon.proofs.Questions.{infos-length, placing-starts}
+use Rattle.canon.proofs.Questions.{placing-starts, offsets-length}
 
 -- Tests
 
@@ -209,26 +209,6 @@ pub placement-first :
     placementAnswer m (take 16384 t) n (take 16385 ws) (min 16384 room) ≡ placementAnswer m t n ws room
 unfolding placementAnswer
 placement-first m t n ws room = rw (placing-first m t n ws room)
-
--- as many offsets as references
-
-pub starts-length : (e : ℕ) (fs : List Layout) → length (starts e fs) ≡ length fs
-unfolding starts
-starts-length e [] = refl
-starts-length e (f ∷ fs) = ap suc (starts-length _ fs)
-
-pub offsets-length : (m : Memory) (t : List ℕ) (n : ℕ) (ws : List ℕ) (room : ℕ) (p : Placing) → placing m t n ws room ≡ ok p → length (p .offsets) ≡ length ws
-offsets-length m t n ws room p e =
-    let a = placing-starts m t n ws room p e in
-    ap length (a .2) ∙ starts-length 0 (layoutsIn m (a .0)) ∙ length-map (a .0) (infoLayout m) ∙ infos-length (read t n) 0 ws (a .0) (a .1 .gives)
-
--- the buffer begins with them
-pub offsets-written :
-    (m : Memory) (t : List ℕ) (n : ℕ) (ws out : List ℕ) (p : Placing) → placing m t n ws (length out) ≡ ok p →
-    take (length ws) (offsetsAfter m t n ws out) ≡ p .offsets
-unfolding offsetsAfter bufferAfter
-offsets-written m t n ws out p e =
-    rw e (take-at (p .offsets) (drop (length (p .offsets)) out) (length ws) (offsets-length m t n ws (length out) p e))
 
 few-offsets : (m : Memory) (t : List ℕ) (n : ℕ) (ws : List ℕ) (room : ℕ) (p : Placing) → placing m t n ws room ≡ ok p → length (p .offsets) ≤ 16384
 few-offsets m t n ws room p e =

@@ -10,7 +10,8 @@ use Prim.Native.Nat.{ℕ, suc, _*_, _-_, _≤_}
 use native.Mathlib.Decide.{decLe}
 use native.Mathlib.Omega.{arith}
 use lib.Dec.{leb, ltb}
-use lib.ListN.{length, take, getElem?}
+use lib.ListN.{length, take, drop, getElem?, length-map}
+use lib.Seq.{take-at}
 use borrow.Author.Tests.{ltb-false, le-ltb}
 use Rattle.canon.specs.Answer.{Leaf, is, no as refuses, Answer, ok, refused, atPosition, then, unless, mapOption2, mapOption, tooLong, badRef, tooLarge, noRoom, badRow}
 use Rattle.canon.specs.Types.{Ty, Core, plain}
@@ -20,7 +21,7 @@ use Rattle.canon.specs.Reach.{Reach, noReach, joinReach, reach}
 use Rattle.canon.specs.Row.{Info, infoLayout, infoOf, rowAbi, rowInfo, rowOf, word, goodAbi, isGood}
 use Rattle.canon.specs.Table.{capacity, rowAt}
 use Rattle.canon.specs.Description.{reference, built, tableAfter}
-use Rattle.canon.specs.Question.{plainInfo, readRow, read, infos, tooMany, noTable, ask, askTwo, typeAnswer, layoutsIn, Placing, placed, placing, reachAll}
+use Rattle.canon.specs.Question.{plainInfo, readRow, read, infos, tooMany, noTable, ask, askTwo, typeAnswer, layoutsIn, Placing, placed, placing, bufferAfter, offsetsAfter, reachAll}
 use Rattle.canon.specs.Signature.{flatAll}
 use Rattle.canon.proofs.Tests.{impossible, both-true}
 use Rattle.canon.proofs.Tightest.{Aligned}
@@ -141,6 +142,26 @@ placing-starts m t n ws room p = go (tooMany ws) (noTable t n) (ltb room (length
       record { few = f; table = g; fits = ltb-false room (length ws) h; gives = i },
       ap (λ (q : Placing). q .offsets) (sym (placed-is _ p (infos-aligned m t n 0 ws is′ i) e .0)),
     )
+
+-- as many offsets as references
+
+pub starts-length : (e : ℕ) (fs : List Layout) → length (starts e fs) ≡ length fs
+unfolding starts
+starts-length e [] = refl
+starts-length e (f ∷ fs) = ap suc (starts-length _ fs)
+
+pub offsets-length : (m : Memory) (t : List ℕ) (n : ℕ) (ws : List ℕ) (room : ℕ) (p : Placing) → placing m t n ws room ≡ ok p → length (p .offsets) ≡ length ws
+offsets-length m t n ws room p e =
+    let a = placing-starts m t n ws room p e in
+    ap length (a .2) ∙ starts-length 0 (layoutsIn m (a .0)) ∙ length-map (a .0) (infoLayout m) ∙ infos-length (read t n) 0 ws (a .0) (a .1 .gives)
+
+-- the buffer begins with them
+pub offsets-written :
+    (m : Memory) (t : List ℕ) (n : ℕ) (ws out : List ℕ) (p : Placing) → placing m t n ws (length out) ≡ ok p →
+    take (length ws) (offsetsAfter m t n ws out) ≡ p .offsets
+unfolding offsetsAfter bufferAfter
+offsets-written m t n ws out p e =
+    rw e (take-at (p .offsets) (drop (length (p .offsets)) out) (length ws) (offsets-length m t n ws (length out) p e))
 
 -- appending references moves no offset before them
 

@@ -18,7 +18,8 @@ use Rattle.host.specs.Numbers.{refusalNumber}
 use Rattle.host.specs.Picked.{readPicked, Names}
 use Rattle.host.specs.Questions.{questionNumber}
 use Rattle.host.proofs.Picked.{no-rows-is}
-use Rattle.canon.proofs.Capped.{below-first, offsets-length, buffer-front}
+use Rattle.canon.proofs.Questions.{offsets-length}
+use Rattle.canon.proofs.Capped.{below-first, buffer-front}
 use Rattle.host.specs.declared.question.Question.{Question}
 use Rattle.host.specs.declared.question.Question.the-variants as question
 

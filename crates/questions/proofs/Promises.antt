@@ -25,8 +25,7 @@ use Rattle.canon.proofs.Wider.{_≼_}
 use Rattle.canon.proofs.Tests.{impossible}
 use Rattle.canon.proofs.Refusals.{Tightest}
 use Rattle.canon.proofs.Questions.{Reads, placing-six, placing-tightest, Names, type-built, ask-built, layouts-typed, flatTypes, flats-typed}
-use Rattle.canon.proofs.Questions.{reachTypes, reaches-typed, offsets-begin, Beside, beside-accepted, beside-refused, placing-beside}
-use Rattle.canon.proofs.Capped.{offsets-length, offsets-written}
+use Rattle.canon.proofs.Questions.{reachTypes, reaches-typed, offsets-length, offsets-written, offsets-begin, Beside, beside-accepted, beside-refused, placing-beside}
 use Rattle.types.specs.Means.{numberOf, memoryOf, layoutMeans}
 use Rattle.types.specs.declared.refusal.Refusal.{Refusal}
 use Rattle.types.specs.declared.refusal.Refusal.the-variants.{TooLarge}

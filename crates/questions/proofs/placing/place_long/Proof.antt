@@ -3,7 +3,7 @@ use mathlib.Core.Path.{refl, ap, sym, _∙_}
 use denote.Ref.{now}
 use lib.ListN.{length, length-map}
 use Rattle.canon.specs.Layout.{starts}
-use Rattle.canon.proofs.Capped.{starts-length}
+use Rattle.canon.proofs.Questions.{starts-length}
 use Rattle.types.specs.Means.{memoryOf}
 use Rattle.questions.specs.Means.{layoutAnswerMeans}
 use Rattle.questions.specs.Steps.{memberLayout, known}
