@@ -2,8 +2,8 @@
 use mathlib.Core.Path.{_≡_, refl, sym, ap, _∙_}
 use mathlib.Core.Bool.{Bool, true, false, cond, _||_}
 use mathlib.Core.List.{List, [], _∷_}
-use Prim.Native.Nat.{ℕ, _+_, _≤_, _∣_, max, min}
-use native.Mathlib.Nat.{add-zero, dvd-of-mod-eq-zero}
+use Prim.Native.Nat.{ℕ, _+_, _≤_, max, min}
+use native.Mathlib.Nat.{add-zero}
 use native.Mathlib.Decide.{decLe}
 use native.Mathlib.Omega.{arith}
 use lib.Dec.{ltb}
@@ -11,13 +11,13 @@ use borrow.Author.Tests.{ltb-false, lt-ltb, le-ltb}
 use Rattle.canon.specs.Answer.{is, no as refuses, tooLarge}
 use Rattle.canon.specs.Layout.{Memory, mem32, mem64, Both, both, within, Layout, greatestAlign, lastEnd, recordSize, largestNumber, roundUp}
 use Rattle.canon.specs.Placement.{fourGiB}
-use Rattle.canon.proofs.Rounding.{le-roundUp, roundUp-least, alignment-pos, Alignment, by1, by2, by4, by8}
+use Rattle.canon.proofs.Rounding.{le-roundUp, alignment-pos, Alignment}
 use Rattle.canon.proofs.Tests.{impossible}
 use Rattle.canon.proofs.Tightest.{Aligned, greatestAlign-alignment}
 use Rattle.types.specs.declared.extent.Extent.{Extent}
 use Rattle.types.specs.declared.extent.Step.{Step}
 use Rattle.types.specs.Extents.{rounded, extentAt, startExtent, memberOf, closeOf, isLarge, layoutOf, fittedOf}
-use Rattle.types.proofs.RoundLaws.{rounded-aligned, rounded-between}
+use Rattle.types.proofs.RoundLaws.{rounded-aligned, rounded-between, round-keeps}
 
 -- what holds in each memory holds in both
 pub both-same : {A : Type 0} {f g : Memory → A} → ((m : Memory) → f m ≡ g m) → both f ≡ both g
@@ -28,27 +28,19 @@ pub reach-is : (e a : ℕ) → e ≤ fourGiB → extentAt e a ≡ record { end =
 unfolding extentAt
 reach-is e a h = let p : min e fourGiB ≡ e = omega arith in rw p
 
--- 4 GiB is a multiple of every alignment, so that rounding keeps it
-
-divides : {a : ℕ} → Alignment a → a ∣ fourGiB
-divides by1 = dvd-of-mod-eq-zero 1 refl
-divides by2 = dvd-of-mod-eq-zero 2 refl
-divides by4 = dvd-of-mod-eq-zero 4 refl
-divides by8 = dvd-of-mod-eq-zero 8 refl
-
 round-stops : {a : ℕ} (e : ℕ) → Alignment a → roundUp (min e fourGiB) a ≡ min (roundUp e a) fourGiB
 round-stops {a} e w =
     elim (decLe e fourGiB) [
       | yes h ↦
           let p : min e fourGiB ≡ e = omega arith in
-          rw p (omega (arith, roundUp-least e a fourGiB (alignment-pos w) h (divides w)))
+          rw p (omega (arith, round-keeps e w h))
       | no h ↦
           let p : min e fourGiB ≡ fourGiB = omega arith in
           rw p (omega (
             arith,
             le-roundUp e a (alignment-pos w),
             le-roundUp fourGiB a (alignment-pos w),
-            roundUp-least fourGiB a fourGiB (alignment-pos w) (omega arith) (divides w),
+            round-keeps fourGiB w (omega arith),
           ))
     ]
 

@@ -30,7 +30,7 @@ use Rattle.canon.specs.Layout.{
 use Rattle.canon.specs.Placement.{fourGiB}
 use Rattle.canon.specs.Flat.{greatestFlat, variantCount}
 use Rattle.canon.specs.Row.{Abi, goodAbi}
-use Rattle.canon.proofs.Rounding.{roundUp-least, alignment-pos, alignment-dvd, Alignment, by1, by2, by4, by8}
+use Rattle.canon.proofs.Rounding.{roundUp-least, alignment-pos, alignment-dvd, Alignment, by8}
 use Rattle.canon.proofs.Tightest.{Aligned, greatestAlign-alignment}
 use Rattle.canon.proofs.Alignments.{discriminant-alignment, variant-alignment, payload-agrees}
 use Rattle.canon.proofs.FlatFolds.{greats, greats-greatest}
@@ -52,7 +52,7 @@ use Rattle.types.specs.declared.discriminant.DiscriminantSize.{Discrimin
 use Rattle.types.specs.declared.discriminant.DiscriminantSize.the-variants.{Size1, Size2, Size4}
 use Rattle.types.specs.Extents.{extentAt, memberOf, widest, variantStep}
 use Rattle.types.specs.States.{CaseState, oneMore, noCases, addCase, addCases, sizedCases, closeCases}
-use Rattle.types.proofs.RoundLaws.{rounded-between}
+use Rattle.types.proofs.RoundLaws.{alignment-most, rounded-between}
 use Rattle.types.proofs.ExtentLaws.{both-same, reach-is, member-reach, close-reach}
 use Rattle.types.proofs.AnswerLaws.{fitted-answer, discriminant-then}
 use Rattle.types.proofs.RecordLaws.{all-aligned, one-bad}
@@ -104,7 +104,7 @@ variant-reach n fs w =
     let start : min (payloadOffset n fs) fourGiB ≡ payloadOffset n fs = omega arith in
     let one : max (variantAlign n fs) (variantAlign n fs) ≡ variantAlign n fs = omega arith in
     rw (
-      ← reach-is (discriminant n) (variantAlign n fs) (omega (arith, most (discriminant-alignment n))),
+      ← reach-is (discriminant n) (variantAlign n fs) (omega (arith, alignment-most (discriminant-alignment n))),
       member-reach (discriminant n) (variantAlign n fs) (record { size = greatestSize fs; align = variantAlign n fs }) a,
       payload-agrees n fs w,
       start,
@@ -112,16 +112,10 @@ variant-reach n fs w =
       close-reach (payloadOffset n fs + greatestSize fs) (variantAlign n fs) a,
     )
   where
-    most : {b : ℕ} → Alignment b → b ≤ 8
-    most by1 = omega arith
-    most by2 = omega arith
-    most by4 = omega arith
-    most by8 = omega arith
-
     small : payloadOffset n fs ≤ 8
     small =
         let a = greatestAlign-alignment fs w in
-        roundUp-least (discriminant n) (greatestAlign fs) 8 (alignment-pos a) (most (discriminant-alignment n)) (alignment-dvd a by8 (most a))
+        roundUp-least (discriminant n) (greatestAlign fs) 8 (alignment-pos a) (alignment-most (discriminant-alignment n)) (alignment-dvd a by8 (alignment-most a))
 
 -- a payload starts close behind its discriminant
 pub variant-fits : (s : DiscriminantSize) (f : Layout) → variantStep (bytesOf s) f .start ≤ largestNumber

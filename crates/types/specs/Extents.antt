@@ -1,22 +1,21 @@
 -- One memory's step, as the code takes it, for every number. The end stops at 4 GiB, so that too large stays too large.
 -- Over aligned layouts it is canon's exact end (proofs/ExtentLaws).
 use mathlib.Core.Bool.{Bool, cond, _||_}
-use Prim.Native.Nat.{ℕ, _+_, _-_, _%_, max, min}
-use lib.Bits.{bitAnd}
+use Prim.Native.Nat.{ℕ, _+_, _-_, _/_, _%_, _^_, max, min}
 use lib.Dec.{ltb}
 use Rattle.canon.specs.Answer.{Leaf, is, no, tooLarge}
-use Rattle.canon.specs.Layout.{Both, both, within, Layout, largestNumber}
+use Rattle.canon.specs.Layout.{Both, both, within, Layout, roundUp, largestNumber}
 use Rattle.canon.specs.Placement.{fourGiB}
 use Rattle.types.specs.declared.extent.Extent.{Extent}
 use Rattle.types.specs.declared.extent.Step.{Step}
 
--- the bits that rounding to an alignment clears; of any other number seven at most
-unfoldable pub lowBits : ℕ → ℕ
-lowBits a = (a + 7) % 8
+-- what rounding counts in: an alignment itself, of any other number one of the four (proofs/RoundLaws)
+unfoldable pub unitOf : ℕ → ℕ
+unitOf a = 2 ^ ((a / 2 - a / 8) % 4)
 
--- the mask: `roundUp` to an alignment (proofs/RoundLaws), at most 7 more to any other number
+-- canon's rounding, to that unit
 unfoldable pub rounded : ℕ → ℕ → ℕ
-rounded x a = (x + lowBits a) - bitAnd (x + lowBits a) (lowBits a)
+rounded x a = roundUp x (unitOf a)
 
 -- the extent of an exact end
 unfoldable pub extentAt : ℕ → ℕ → Extent

@@ -5,7 +5,7 @@ ghost use Rattle.canon.specs.Placement.{fourGiB};
 ghost use Rattle.canon.specs.Row.{isAlignment};
 ghost use Rattle.types.specs.Means.{roundedMeans};
 ghost use Rattle.types.specs.Leaves.{alignTo};
-ghost use Rattle.types.specs.Extents.{rounded, lowBits};
+ghost use Rattle.types.specs.Extents.{unitOf, rounded};
 use crate::Refusal;
 
 // No start, end or size may be above this, as 01 says of refusal 6.
@@ -27,22 +27,25 @@ pub(crate) fn is_alignment(a: u32) -> bool
     }
 }
 
-// Gives the bits that rounding to an alignment clears: 7 at most, since 8 is the greatest. So it is for every other number, and nothing branches on
-// which it is.
-fn low_bits(a: u32) -> u64
-    ensures { λ r. ⌜ r ≡ lowBits a ⌝ }
+// Gives an alignment itself: 1, 2, 4 and 8 are 2 to the power of their half less their eighth. For every other number it is one of these four, so that no
+// division is by zero, and nothing branches on which it is.
+fn unit_of(a: u32) -> u64
+    ensures { λ r. ⌜ r ≡ unitOf a ⌝ }
 {
-    (a as u64 + 7) % 8
+    let power = (a / 2 - a / 8) % 4;
+    1u64 << power
 }
 
-// Masks as the Rust does, in 64 bits, where the sum cannot wrap.
+// Counts whole units, and one more where a rest is left; in 64 bits, where the sum cannot wrap.
 pub(crate) fn round_up(a: u64, b: u32) -> u64
     requires { ⌜ a ≤ fourGiB ⌝ }
     ensures { λ r. ⌜ r ≡ rounded a b ⌝ }
 {
-    let low = low_bits(b);
-    let sum = a + low;
-    sum - (sum & low)
+    let unit = unit_of(b);
+    let quotient = a / unit;
+    let rest = a % unit;
+    let whole = quotient * unit;
+    if rest == 0 { whole } else { whole + unit }
 }
 
 // Refuses BadRow for what is no alignment, then TooLarge for the rounded number.
