@@ -17,7 +17,7 @@ use Rattle.canon.proofs.Tightest.{Aligned, greatestAlign-alignment}
 use Rattle.types.specs.declared.extent.Extent.{Extent}
 use Rattle.types.specs.declared.extent.Step.{Step}
 use Rattle.types.specs.Extents.{rounded, extentAt, startExtent, memberOf, closeOf, isLarge, layoutOf, fittedOf}
-use Rattle.types.proofs.RoundLaws.{rounded-aligned, rounded-between, round-keeps}
+use Rattle.types.proofs.RoundLaws.{rounded-aligned, rounded-between, roundUp-stays}
 
 -- what holds in each memory holds in both
 pub both-same : {A : Type 0} {f g : Memory → A} → ((m : Memory) → f m ≡ g m) → both f ≡ both g
@@ -28,19 +28,20 @@ pub reach-is : (e a : ℕ) → e ≤ fourGiB → extentAt e a ≡ record { end =
 unfolding extentAt
 reach-is e a h = let p : min e fourGiB ≡ e = omega arith in rw p
 
+-- rounding a stopped end is stopping the rounded one
 round-stops : {a : ℕ} (e : ℕ) → Alignment a → roundUp (min e fourGiB) a ≡ min (roundUp e a) fourGiB
 round-stops {a} e w =
     elim (decLe e fourGiB) [
       | yes h ↦
           let p : min e fourGiB ≡ e = omega arith in
-          rw p (omega (arith, round-keeps e w h))
+          rw p (omega (arith, roundUp-stays e w h))
       | no h ↦
           let p : min e fourGiB ≡ fourGiB = omega arith in
           rw p (omega (
             arith,
             le-roundUp e a (alignment-pos w),
             le-roundUp fourGiB a (alignment-pos w),
-            round-keeps fourGiB w (omega arith),
+            roundUp-stays fourGiB w (omega arith),
           ))
     ]
 

@@ -47,9 +47,9 @@ alignment-most by2 = omega arith
 alignment-most by4 = omega arith
 alignment-most by8 = omega arith
 
--- 4 GiB is a multiple of every alignment, so that rounding keeps it
-pub round-keeps : {a : ℕ} (x : ℕ) → Alignment a → x ≤ fourGiB → roundUp x a ≤ fourGiB
-round-keeps {a} x w h =
+-- 4 GiB is a multiple of every alignment, so that rounding up does not pass it
+pub roundUp-stays : {a : ℕ} (x : ℕ) → Alignment a → x ≤ fourGiB → roundUp x a ≤ fourGiB
+roundUp-stays {a} x w h =
     let d : a ∣ fourGiB = dvd-trans _ (alignment-dvd w by8 (alignment-most w)) (dvd-of-mod-eq-zero 8 refl) in
     roundUp-least x a fourGiB (alignment-pos w) h d
 
@@ -62,7 +62,7 @@ unit-aligned by2 = refl
 unit-aligned by4 = refl
 unit-aligned by8 = refl
 
-unit-alignment : (a : ℕ) → Alignment (unitOf a)
+pub unit-alignment : (a : ℕ) → Alignment (unitOf a)
 unfolding unitOf
 unit-alignment a = go ((a / 2 - a / 8) % 4) (mod-lt (a / 2 - a / 8) (omega arith))
   where
@@ -87,15 +87,12 @@ rounded-between x a = (
   omega (arith, div-mul-le-self (x + (unitOf a - 1)) (unitOf a), alignment-most (unit-alignment a)),
 )
 
-pub rounded-fits : (x a : ℕ) → x ≤ fourGiB → rounded x a ≤ fourGiB
-unfolding rounded
-rounded-fits x a h = round-keeps x (unit-alignment a) h
-
--- where the end stops it stays
+-- rounding to any number keeps 4 GiB, where an end stops
 pub rounded-keeps : (a : ℕ) → rounded fourGiB a ≡ fourGiB
-rounded-keeps a = le-antisymm (rounded-fits fourGiB a (le-refl fourGiB)) (rounded-between fourGiB a .0)
+unfolding rounded
+rounded-keeps a = le-antisymm (roundUp-stays fourGiB (unit-alignment a) (le-refl fourGiB)) (rounded-between fourGiB a .0)
 
--- The whole units, or one more where a rest is left, are the least multiple
+-- The whole units, or one more where a rest is left, are the least multiple at or after
 
 pub whole-units : (x u : ℕ) → 0 < u → x % u ≡ 0 → x / u * u ≡ roundUp x u
 whole-units x u h e =

@@ -9,7 +9,7 @@ use Rattle.canon.specs.Placement.{fourGiB}
 use Rattle.types.specs.declared.extent.Extent.{Extent}
 use Rattle.types.specs.declared.extent.Step.{Step}
 
--- what rounding counts in: an alignment itself, of any other number one of the four (proofs/RoundLaws)
+-- the unit of rounding: an alignment is its own, any other number has one of the four (proofs/RoundLaws)
 unfoldable pub unitOf : ℕ → ℕ
 unitOf a = 2 ^ ((a / 2 - a / 8) % 4)
 

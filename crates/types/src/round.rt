@@ -27,8 +27,8 @@ pub(crate) fn is_alignment(a: u32) -> bool
     }
 }
 
-// Gives an alignment itself: 1, 2, 4 and 8 are 2 to the power of their half less their eighth. For every other number it is one of these four, so that no
-// division is by zero, and nothing branches on which it is.
+// An alignment is its own unit: 1, 2, 4 and 8 are 2 to the power of a half less an eighth of them, in whole numbers. Every other number has one of these four,
+// so that no division is by zero. As 1 shifted it costs no real division, and no branch on which it is.
 fn unit_of(a: u32) -> u64
     ensures { λ r. ⌜ r ≡ unitOf a ⌝ }
 {

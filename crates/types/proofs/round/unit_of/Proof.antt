@@ -1,4 +1,4 @@
--- A shift of one is a power of two.
+-- One, shifted by a number, is 2 to its power.
 use mathlib.Core.Path.{_∙_}
 use Prim.Native.Nat.{_-_, _/_, _%_, _^_}
 use native.Mathlib.Nat.{one-mul}
