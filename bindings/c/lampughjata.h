@@ -44,9 +44,10 @@ uint64_t lampughjata_max_flat(uint32_t a, uint32_t b);
 uint64_t lampughjata_next_field(uint32_t memory, uint32_t size32, uint32_t align32, uint32_t size64,
     uint32_t align64, uint32_t flat, uint32_t end, uint32_t k);
 
-/* The info of so many flags, or of an enum of so many cases: k = 0 to 4.
+/* The info of so many flags, refused above 512, or of an enum of so many cases: k = 0 to 4.
  *     lampughjata_flags(9, 0) == 2
- *     lampughjata_flags(33, 0) == 5 * REFUSED
+ *     lampughjata_flags(33, 0) == 8
+ *     lampughjata_flags(513, 0) == 5 * REFUSED
  *     lampughjata_enum(257, 0) == 2 */
 uint64_t lampughjata_flags(uint32_t count, uint32_t k);
 uint64_t lampughjata_enum(uint32_t count, uint32_t k);

@@ -88,7 +88,7 @@ impl Description {
         self.define(5, [key.0, value.0])
     }
 
-    /// As many flags as `count`.
+    /// As many flags as `count`. A build refuses more than 512.
     pub fn flags(&mut self, count: u32) -> Reference {
         self.define(6, [count])
     }

@@ -17,7 +17,7 @@ pub enum Refusal {
     BadKind = 3,
     /// A word that is no reference, or a reference to a definition that is not there (yet).
     BadRef = 4,
-    /// A variant or enum of no case, more than 32 flags, a maximum above 16.
+    /// A variant or enum of no case, more than 512 flags, a maximum above 16.
     BadCount = 5,
     /// An offset or a size above 4294967295: of a placement in its own memory, else in either.
     TooLarge = 6,
@@ -59,7 +59,7 @@ impl fmt::Display for Refusal {
             Refusal::Truncated => "the description ends in the middle of a definition",
             Refusal::BadKind => "the kind of a definition is not 1 to 10",
             Refusal::BadRef => "a bad reference, or one to a definition that is not there yet",
-            Refusal::BadCount => "a bad count: no case, more than 32 flags, or a maximum above 16",
+            Refusal::BadCount => "a bad count: no case, more than 512 flags, or a maximum above 16",
             Refusal::TooLarge => "an offset or a size is above 4294967295",
             Refusal::NoRoom => "the buffer has no room for the next row or for all offsets",
             Refusal::BadRow => "more than 1024 rows, too short a table, or a row not well formed",

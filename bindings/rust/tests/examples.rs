@@ -1,4 +1,4 @@
-//! The examples of the scope document, through the crate.
+//! The examples of the scope document and of order 4, through the crate.
 use lampughjata::{
     Calling, CoreType, Description, Info, Layout, Memory, Place, Placement, Reference, Refusal,
     Refused, Side, Table,
@@ -130,6 +130,23 @@ fn flags_by_their_number() {
         let info = last(|d| d.flags(count)).unwrap();
         assert_eq!(sizes(&info), [(size, align); 2], "{count} flags");
     }
+}
+
+#[test]
+fn flags_by_groups() {
+    for (count, groups) in [(32, 1), (33, 2), (64, 2), (65, 3), (512, 16)] {
+        let info = last(|d| d.flags(count)).unwrap();
+        assert_eq!(sizes(&info), [(4 * groups, 4); 2], "{count} flags");
+        assert_eq!(
+            info.flat_count.map(u32::from),
+            Some(groups),
+            "{count} flags"
+        );
+    }
+    assert_eq!(
+        last(|d| d.flags(513)),
+        Err(refused_at(0, Refusal::BadCount))
+    );
 }
 
 #[test]

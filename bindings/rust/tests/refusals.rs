@@ -63,7 +63,7 @@ fn builds() {
         at_definition(
             5,
             0,
-            "a bad count: no case, more than 32 flags, or a maximum above 16 (refusal 5 at \
+            "a bad count: no case, more than 512 flags, or a maximum above 16 (refusal 5 at \
              definition 0)"
         )
     );
@@ -108,7 +108,7 @@ fn questions() {
         at_reference(
             5,
             0,
-            "a bad count: no case, more than 32 flags, or a maximum above 16 (refusal 5)"
+            "a bad count: no case, more than 512 flags, or a maximum above 16 (refusal 5)"
         )
     );
     let mut offsets = [7];
@@ -167,7 +167,7 @@ fn a_lent_buffer_keeps_its_other_words() {
     assert_eq!(kept(&buffer), 8);
 
     let mut buffer = [9; 40];
-    let refused = Table::build_in(&[6, 1, 6, 33], &mut buffer).unwrap_err();
+    let refused = Table::build_in(&[6, 1, 6, 513], &mut buffer).unwrap_err();
     assert_eq!(
         refused,
         Refused {

@@ -13,7 +13,7 @@ use borrow.Author.Tests.{ltb-true, lt-leb}
 use Rattle.canon.specs.Answer.{Leaf, no, mapOption, mapOption2, badCount, andThen}
 use Rattle.canon.specs.Types.{Ty, variantOf, listOf, mapOf, flagsOf, enumOf, optionOf, resultOf, fixedOf, Members, Case, Cases, ∎, _▸_, count}
 use Rattle.canon.specs.Types.{Kind, kRecord, kVariant, kList, kTuple, kMap, kFlags, kEnum, kOption, kResult, kFixed}
-use Rattle.canon.specs.Layout.{discriminant}
+use Rattle.canon.specs.Layout.{discriminant, mostFlags}
 use Rattle.canon.specs.Row.{infoOf, rowKind}
 use Rattle.canon.specs.Description.{
   reference,
@@ -63,9 +63,9 @@ enum : (c n : ℕ) → enumRow c ≡ cond (eqb c 0) (no badCount) (rowLeaf (chec
 unfolding enumRow andThen
 enum c n = judged (eqb c 0) (λ h. rw (discriminant-none c h)) (λ h. rw (discriminant-is c h) (cased-row (enum-cased c) n))
 
-flags : (c n : ℕ) → flagsRow c ≡ cond (ltb 32 c) (no badCount) (rowLeaf (checked n (some (flagsOf c))))
+flags : (c n : ℕ) → flagsRow c ≡ cond (ltb mostFlags c) (no badCount) (rowLeaf (checked n (some (flagsOf c))))
 unfolding flagsRow flagsAnswer given andThen
-flags c n = judged (ltb 32 c) (λ h. rw (lt-leb c 32 (ltb-true 32 c h))) (flags-row c n)
+flags c n = judged (ltb mostFlags c) (λ h. rw (lt-leb c mostFlags (ltb-true mostFlags c h))) (flags-row c n)
 
 module _ (ts : List Ty) where
   product : {k : Kind} {type : Members → Ty} → Product k type → (ws : List ℕ) (kind n : ℕ) → ((us : Members) → rowKind (type us) ≡ kind) →

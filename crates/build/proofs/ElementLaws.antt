@@ -50,14 +50,14 @@ fixed-row t c n =
     fit-same {ns = both (λ m. noInner)} (kindWord kFixed) refl (fixed-words t c) refl refl
     ∙ fit-row (fixedOf t c) (λ m. fixedLayout (layout m t) c) _ n (λ m. refl) (λ h. row-words (fixedOf t c))
 
-flags-fits : (n : ℕ) → flagsLayout n .size ≤ largestNumber
-flags-fits n = flags-by (λ f. f .size ≤ largestNumber) (omega arith) (omega arith) (omega arith) (omega arith) n
+flags-fits : (n : ℕ) → n ≤ mostFlags → flagsLayout n .size ≤ largestNumber
+flags-fits n h = flags-by (λ f. f .size ≤ largestNumber) n (omega arith) (omega arith) (omega arith) (omega arith)
 
 pub flags-row : (c n : ℕ) → ltb mostFlags c ≡ false → flagsRow c ≡ rowLeaf (checked n (some (flagsOf c)))
 unfolding flagsRow flagsAnswer given andThen layout flatten flatCount reach
 flags-row c n h =
     rw (le-leb c mostFlags (ltb-false mostFlags c h), flags-words c)
-    (ap is (row-words (flagsOf c)) ∙ row-fits (flagsOf c) n (λ m. flags-fits c))
+    (ap is (row-words (flagsOf c)) ∙ row-fits (flagsOf c) n (λ m. flags-fits c (ltb-false mostFlags c h)))
 
 -- where the entry fits, the value starts after the key
 value-start :

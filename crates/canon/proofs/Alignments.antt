@@ -3,10 +3,10 @@ use mathlib.Core.Path.{_≡_, refl}
 use mathlib.Core.Bool.{Bool, true, false, cond}
 use mathlib.Core.List.{List, [], _∷_, _++_}
 use Prim.Native.Nat.{ℕ, _+_, _∣_, max}
-use native.Mathlib.Nat.{dvd-refl, dvd-add, one-dvd, dvd-mul-right-of-dvd}
+use native.Mathlib.Nat.{dvd-refl, dvd-add, one-dvd, dvd-mul-right, dvd-mul-right-of-dvd}
 use lib.Dec.{leb}
 use Rattle.canon.specs.Types.{Scalar, facts, bool, s8, u8, s16, u16, s32, u32, s64, u64, float32, float64, char, own, borrowed, future, stream, errorContext, Ty, scalar, string, recordOf, variantOf, listOf, tupleOf, mapOf, flagsOf, enumOf, optionOf, resultOf, fixedOf, Members, ∅, _◂_, Case, bare, holding, Cases, ∎, _▸_, count}
-use Rattle.canon.specs.Layout.{Memory, mem32, mem64, Layout, square, ptrSize, greatestAlign, recordSize, discriminant, variantAlign, payloadOffset, variantSize, flagsLayout, layout, members, payload, payloads, roundUp}
+use Rattle.canon.specs.Layout.{Memory, mem32, mem64, Layout, square, ptrSize, greatestAlign, recordSize, discriminant, variantAlign, payloadOffset, variantSize, groups, grouped, flagsLayout, layout, members, payload, payloads, roundUp}
 use Rattle.canon.proofs.Rounding.{dvd-roundUp, max-alignment, Alignment, by1, by2, by4, by8}
 use Rattle.canon.proofs.Tightest.{Aligned, greatestAlign-alignment}
 
@@ -42,14 +42,14 @@ discriminant-alignment n = go (leb n 256) (leb n 65536)
     go false false = by4
 
 -- each law of a flags type, from its four shapes
-pub flags-by : (P : Layout → Type 0) → P (record { size = 0; align = 1 }) → P (square 1) → P (square 2) → P (square 4) → (n : ℕ) → P (flagsLayout n)
-flags-by P p0 p1 p2 p4 n = go (leb n 0) (leb n 8) (leb n 16)
+pub flags-by : (P : Layout → Type 0) (n : ℕ) → P (record { size = 0; align = 1 }) → P (square 1) → P (square 2) → P (grouped (groups n)) → P (flagsLayout n)
+flags-by P n p0 p1 p2 pg = go (leb n 0) (leb n 8) (leb n 16)
   where
-    go : (a b c : Bool) → P (cond a (record { size = 0; align = 1 }) (cond b (square 1) (cond c (square 2) (square 4))))
+    go : (a b c : Bool) → P (cond a (record { size = 0; align = 1 }) (cond b (square 1) (cond c (square 2) (grouped (groups n)))))
     go true b c = p0
     go false true c = p1
     go false false true = p2
-    go false false false = p4
+    go false false false = pg
 
 pub variant-alignment : (n : ℕ) (fs : List Layout) → Aligned fs → Alignment (variantAlign n fs)
 variant-alignment n fs w = max-alignment (discriminant-alignment n) (greatestAlign-alignment fs w)
@@ -70,7 +70,7 @@ module _ (m : Memory) where
     layout-aligned (listOf t) = ptr-alignment m
     layout-aligned (tupleOf ts) = greatestAlign-alignment (members m ts) (members-aligned ts)
     layout-aligned (mapOf k v) = ptr-alignment m
-    layout-aligned (flagsOf n) = flags-by (λ f. Alignment (f .align)) by1 by1 by2 by4 n
+    layout-aligned (flagsOf n) = flags-by (λ f. Alignment (f .align)) n by1 by1 by2 by4
     layout-aligned (enumOf n) = variant-alignment n [] tt
     layout-aligned (optionOf t) = variant-alignment 2 (layout m t ∷ []) (layout-aligned t, tt)
     layout-aligned (resultOf ok err) =
@@ -102,7 +102,7 @@ layout-whole m (variantOf cs) = dvd-roundUp _ (variantAlign (count cs) (payloads
 layout-whole m (listOf t) = pair-whole m
 layout-whole m (tupleOf ts) = dvd-roundUp _ (greatestAlign (members m ts))
 layout-whole m (mapOf k v) = pair-whole m
-layout-whole m (flagsOf n) = flags-by (λ f. f .align ∣ f .size) (one-dvd 0) (dvd-refl 1) (dvd-refl 2) (dvd-refl 4) n
+layout-whole m (flagsOf n) = flags-by (λ f. f .align ∣ f .size) n (one-dvd 0) (dvd-refl 1) (dvd-refl 2) (dvd-mul-right 4 (groups n))
 layout-whole m (enumOf n) = dvd-roundUp _ (variantAlign n [])
 layout-whole m (optionOf t) = dvd-roundUp _ (variantAlign 2 (layout m t ∷ []))
 layout-whole m (resultOf ok err) = dvd-roundUp _ (variantAlign 2 (payload m ok ++ payload m err))

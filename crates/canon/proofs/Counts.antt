@@ -1,17 +1,17 @@
 -- A flat count is the flat list's length up to 16, in either memory, but for the one gap in 01's rule.
-use mathlib.Core.Path.{_≡_, refl, sym, ap}
+use mathlib.Core.Path.{_≡_, refl, sym, ap, _∙_}
 use mathlib.Core.Logic.{_⊎_, inl, inr, ⊎-elim, _↔_}
 use mathlib.Core.Bool.{Bool, true, false, cond}
 use mathlib.Core.List.{List, [], _∷_, _++_}
 use mathlib.Core.Option.{Option, none, some}
 use Prim.Native.Nat.{ℕ, zero, suc, _+_, _*_, _≤_, _<_, max}
-use native.Mathlib.Nat.{mul-suc}
+use native.Mathlib.Nat.{mul-suc, one-mul}
 use native.Mathlib.Omega.{arith}
 use lib.Dec.{leb}
 use lib.ListN.{length, length-append}
-use borrow.Author.Tests.{leb-true, leb-false}
+use borrow.Author.Tests.{le-leb, lt-leb, leb-true, leb-false}
 use Rattle.canon.specs.Types.{Ty, scalar, string, recordOf, variantOf, listOf, tupleOf, mapOf, flagsOf, enumOf, optionOf, resultOf, fixedOf, Members, ∅, _◂_, Case, bare, holding, Cases, ∎, _▸_, Core, I32}
-use Rattle.canon.specs.Layout.{Memory}
+use Rattle.canon.specs.Layout.{Memory, groups, mostFlags}
 use Rattle.canon.specs.Flat.{joinLists, joinAll, concat, flagsFlat, flatten, memberFlats, payloadFlat, payloadFlats, capped, addFlat, maxFlat, timesFlat, sumFlat, greatestFlat, variantCount, flagsCount, flatCount, memberCounts, payloadCount, payloadCounts}
 use Rattle.canon.proofs.FlatFolds.{length-join, length-copies, maxFlat-assoc, zero-maxFlat}
 
@@ -134,9 +134,23 @@ variant-judged as′ ls G p =
     drop-empty none l q = ⊎-elim inl (λ h. inr (⊎-elim (λ x. absurd x) (λ g. g) h)) q
     drop-empty (some n) l q = (q .0, q .1, λ g. q .2 (inr g))
 
+-- 01: "to 32, four, alignment equal to size and flat 1": these are one group
+pub one-group : (n : ℕ) → 0 < n → n ≤ 32 → groups n ≡ 1
+one-group n h k = omega arith
+
+pub flags-length : (n : ℕ) → length (flagsFlat n) ≡ groups n
+flags-length n = length-copies (groups n) (I32 ∷ []) ∙ one-mul (groups n)
+
+-- 02: "we stop where it would pass 16"
+pub flags-stop : (n : ℕ) → leb (groups n) 16 ≡ leb n mostFlags
+flags-stop n = go (leb n mostFlags) refl
+  where
+    go : (b : Bool) → leb n mostFlags ≡ b → leb (groups n) 16 ≡ b
+    go true h = le-leb (groups n) 16 (omega (arith, leb-true n mostFlags h))
+    go false h = lt-leb (groups n) 16 (omega (arith, leb-false n mostFlags h))
+
 flags-judged : (n : ℕ) → Judged (flagsCount n) (length (flagsFlat n)) ⊥
-flags-judged zero = (refl, omega arith, λ x. x)
-flags-judged (suc n) = (refl, omega arith, λ x. x)
+flags-judged n = rw (flags-length n) (capped-judged (groups n) ⊥ (λ x. x))
 
 module _ (m : Memory) where
   mutual

@@ -1,5 +1,5 @@
--- The worked examples of document 01 as one list under one theorem: words in, 01's numbers out, through the meaning of descriptions and
--- questions that the promises cite.
+-- The worked examples of document 01, and of order 4, as one list under one theorem: words in, the papers' numbers out, through the meaning
+-- of descriptions and questions that the promises cite.
 use mathlib.Core.Path.{_≡_, refl}
 use mathlib.Core.Bool.{true, false}
 use mathlib.Core.List.{List, [], _∷_, _++_, map}
@@ -114,6 +114,15 @@ examples =
     ∷ on (6 ∷ 8 ∷ []) numbersOf (ok (1 ∷ 1 ∷ 1 ∷ 1 ∷ 1 ∷ []))
     ∷ on (6 ∷ 9 ∷ []) numbersOf (ok (2 ∷ 2 ∷ 2 ∷ 2 ∷ 1 ∷ []))
     ∷ on (6 ∷ 17 ∷ []) numbersOf (ok (4 ∷ 4 ∷ 4 ∷ 4 ∷ 1 ∷ []))
+    -- order 4: one group, two, three and sixteen of them; 513 labels; a record of 512 labels and a U8; 40 labels eight times
+    ∷ on (6 ∷ 32 ∷ []) numbersOf (ok (4 ∷ 4 ∷ 4 ∷ 4 ∷ 1 ∷ []))
+    ∷ on (6 ∷ 33 ∷ []) numbersOf (ok (8 ∷ 4 ∷ 8 ∷ 4 ∷ 2 ∷ []))
+    ∷ on (6 ∷ 64 ∷ []) numbersOf (ok (8 ∷ 4 ∷ 8 ∷ 4 ∷ 2 ∷ []))
+    ∷ on (6 ∷ 65 ∷ []) numbersOf (ok (12 ∷ 4 ∷ 12 ∷ 4 ∷ 3 ∷ []))
+    ∷ on (6 ∷ 512 ∷ []) numbersOf (ok (64 ∷ 4 ∷ 64 ∷ 4 ∷ 16 ∷ []))
+    ∷ on (6 ∷ 513 ∷ []) numbersOf (refused 5 0)
+    ∷ on (6 ∷ 512 ∷ 1 ∷ 2 ∷ 64 ∷ 2 ∷ []) numbersOf (ok (68 ∷ 4 ∷ 68 ∷ 4 ∷ 255 ∷ []))
+    ∷ on (6 ∷ 40 ∷ 10 ∷ 64 ∷ 8 ∷ []) numbersOf (ok (64 ∷ 4 ∷ 64 ∷ 4 ∷ 16 ∷ []))
     -- P10 U32 fixed at 16, at 17
     ∷ on (10 ∷ 6 ∷ 16 ∷ []) numbersOf (ok (64 ∷ 4 ∷ 64 ∷ 4 ∷ 16 ∷ []))
     ∷ on (10 ∷ 6 ∷ 17 ∷ []) numbersOf (ok (68 ∷ 4 ∷ 68 ∷ 4 ∷ 255 ∷ []))

@@ -74,7 +74,7 @@ referencesOf (fixed r k) b = take r b
 abbrev isKind : Kind → Kind → Bool
 isKind j k = eqb (kindWord j) (kindWord k)
 
--- refusal 5: "variant or enum with n = 0, flags above 32"
+-- refusal 5: "variant or enum with n = 0, flags above 512"
 abbrev pub isBadCount : Kind → ℕ → Bool
 isBadCount k n = cond (isKind kFlags k) (ltb mostFlags n) ((isKind kVariant k || isKind kEnum k) && eqb n 0)
 

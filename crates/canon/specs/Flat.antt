@@ -5,7 +5,7 @@ use mathlib.Core.Option.{Option, none, some}
 use Prim.Native.Nat.{ℕ, zero, suc, _+_, _*_, max}
 use lib.Dec.{leb, eqb}
 use Rattle.canon.specs.Types.{Ty, scalar, string, recordOf, variantOf, listOf, tupleOf, mapOf, flagsOf, enumOf, optionOf, resultOf, fixedOf, Core, I32, I64, F32, facts, Members, ∅, _◂_, Case, bare, holding, Cases, ∎, _▸_}
-use Rattle.canon.specs.Layout.{Memory, mem32, mem64}
+use Rattle.canon.specs.Layout.{Memory, mem32, mem64, groups}
 use Rattle.canon.specs.Pack.{code}
 
 -- CanonicalABI.md, ptr_type
@@ -45,10 +45,9 @@ unfoldable pub copies : ℕ → List Core → List Core
 copies zero l = []
 copies (suc n) l = l ++ copies n l
 
--- flatten_flags, and nothing for no labels
+-- 01: "flat one I32 for each" started group of 32 labels; flatten_flags, for 32 labels at most, has one
 abbrev pub flagsFlat : ℕ → List Core
-flagsFlat zero = []
-flagsFlat (suc n) = I32 ∷ []
+flagsFlat n = copies (groups n) (I32 ∷ [])
 
 -- 01: "A variant gives I32, then cases joined place by place"
 abbrev pub variantFlat : List (List Core) → List Core
@@ -115,9 +114,9 @@ greatestFlat (a ∷ as′) = maxFlat a (greatestFlat as′)
 abbrev pub variantCount : List (Option ℕ) → Option ℕ
 variantCount as′ = addFlat (some 1) (greatestFlat as′)
 
+-- as many as there are groups
 abbrev pub flagsCount : ℕ → Option ℕ
-flagsCount zero = some 0
-flagsCount (suc n) = some 1
+flagsCount n = capped (groups n)
 
 -- "flat 1" of a scalar, "flat 2" of a string, list or map
 unfoldable mutual

@@ -94,13 +94,21 @@ variantSize n fs = roundUp (payloadOffset n fs + greatestSize fs) (variantAlign 
 abbrev pub variantLayout : ℕ → List Layout → Layout
 variantLayout n fs = record { size = variantSize n fs; align = variantAlign n fs }
 
--- refusal 5: "flags above 32"
+-- refusal 5, as order 4 amends it: "flags above 512"
 abbrev pub mostFlags : ℕ
-mostFlags = 32
+mostFlags = 512
 
--- 01: "n = 0 gives 0, 1, flat 0; to 8, one byte; to 16, two; to 32, four"
+-- "started group of 32 labels": how many there are of n labels
+abbrev pub groups : ℕ → ℕ
+groups n = (n + 31) / 32
+
+-- "four bytes for each started group of 32 labels, alignment 4"
+abbrev pub grouped : ℕ → Layout
+grouped k = record { size = 4 * k; align = 4 }
+
+-- 01: "n = 0 gives 0, 1, flat 0; to 8, one byte; to 16, two; to 32, four": these four bytes are one group, and above there are more
 abbrev pub flagsLayout : ℕ → Layout
-flagsLayout n = cond (leb n 0) (record { size = 0; align = 1 }) (cond (leb n 8) (square 1) (cond (leb n 16) (square 2) (square 4)))
+flagsLayout n = cond (leb n 0) (record { size = 0; align = 1 }) (cond (leb n 8) (square 1) (cond (leb n 16) (square 2) (grouped (groups n))))
 
 -- 01: "size times count, element's alignment"
 abbrev pub fixedLayout : Layout → ℕ → Layout

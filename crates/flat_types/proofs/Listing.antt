@@ -11,13 +11,14 @@ use lib.Dec.{leb, eqb}
 use lib.ListN.{length, length-append}
 use borrow.Author.Tests.{le-leb, lt-leb, leb-true, ne-eqb, eqb-true}
 use Rattle.canon.specs.Answer.{mapOption}
-use Rattle.canon.specs.Layout.{Memory, mem32, mem64, both, within}
+use Rattle.canon.specs.Layout.{Memory, mem32, mem64, both, within, groups}
 use Rattle.canon.specs.Flat.{copies, flagsFlat}
 use Rattle.canon.specs.Pack.{Packed, pack, unpack}
 use Rattle.canon.specs.Row.{countOf, goodCount, unusedZero}
 use Rattle.canon.specs.Types.{Core, I32}
 use Rattle.canon.proofs.Packing.{pack-lt, pack-append, unpack-pack, length-unpack}
 use Rattle.canon.proofs.FlatFolds.{length-copies, Counted}
+use Rattle.canon.proofs.Counts.{flags-length}
 use Rattle.flat_types.specs.Lists.{unpacked, noList, packedTo, packed, halves, whole, Holds, goodFlat}
 use Rattle.flat_types.specs.Places.{appendWord, appendTo}
 use Rattle.flat_types.specs.declared.both.FlatTypes.{FlatTypes}
@@ -106,9 +107,18 @@ module _ (p : Packed) (n : ℕ) where
   pub repeat-is : (w : ℕ) → p .number ≤ 16 → p .number * n ≤ 16 → w ≡ pack (copies n (types p)) → record { number = p .number * n; types = w } ≡ packed (mapOption (copies n) (unpacked p))
   repeat-is w h k e = one-is p (copies n) 16 (p .number * n) w h repeat-length k e
 
-pub flags-some : (n : ℕ) → (n ≡ 0 → ⊥) → flagsFlat n ≡ I32 ∷ []
-flags-some zero h = absurd (h refl)
-flags-some (suc n) h = refl
+-- Flags: one I32 for each group, whose word is 0
+
+flags-zero : (k : ℕ) → pack (copies k (I32 ∷ [])) ≡ 0
+unfolding pack copies
+flags-zero zero = refl
+flags-zero (suc k) = omega (arith, flags-zero k)
+
+pub flags-none : (n : ℕ) → 16 < groups n → noList ≡ packed (some (flagsFlat n))
+flags-none n h = sym (packed-none 16 (flagsFlat n) (omega (arith, flags-length n)))
+
+pub flags-is : (n k : ℕ) → k ≡ groups n → k ≤ 16 → record { number = k; types = 0 } ≡ packed (some (flagsFlat n))
+flags-is n k e h = answer 16 k 0 (flagsFlat n) (flags-length n ∙ sym e) h (sym (flags-zero (groups n)))
 
 -- The good form of a row's words
 

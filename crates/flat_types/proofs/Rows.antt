@@ -10,7 +10,7 @@ use lib.ListN.{length, length-append, getElem?}
 use borrow.Author.Tests.{le-leb, lt-leb, leb-true, leb-false}
 use Rattle.canon.specs.Answer.{mapOption, mapOption2}
 use Rattle.canon.specs.Types.{Ty, Core, I32, plain}
-use Rattle.canon.specs.Layout.{Memory, mem32, mem64, both, within}
+use Rattle.canon.specs.Layout.{Memory, mem32, mem64, both, within, groups}
 use Rattle.canon.specs.Flat.{
   joinLists,
   joinAll,
@@ -31,6 +31,7 @@ use Rattle.canon.specs.Pack.{Packed, pack}
 use Rattle.canon.specs.Placement.{Every}
 use Rattle.canon.specs.Row.{countWord, flatWord, rowFlat}
 use Rattle.canon.proofs.Packing.{pack-lt, pack-append}
+use Rattle.canon.proofs.Counts.{flags-length}
 use Rattle.canon.proofs.FlatFolds.{
   length-copies,
   Counted,
@@ -224,9 +225,7 @@ module _ {as′ : List (Option ℕ)} (ls : Memory → List (List Core)) (p : (m 
 -- Words that are written at once, in one memory
 
 pub flags-words : (n : ℕ) → packed (some (flagsFlat n)) ≡ rowFlat (flagsCount n) (flagsFlat n)
-unfolding packedTo
-flags-words zero = refl
-flags-words (suc n) = refl
+flags-words n = capped-words (groups n) (flagsFlat n) (flags-length n)
 
 at-each : (P : Ty → Type 0) (ts : List Ty) → Every P ts → (k : ℕ) (t : Ty) → getElem? ts k ≡ some t → P t
 at-each P [] w k t e = let z : _≡_ {A = ℕ} 0 1 = cc in absurd (omega arith)

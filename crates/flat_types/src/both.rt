@@ -20,6 +20,7 @@ use crate::repeat::repeat_words;
 use types::MAX_FLAT_TYPES;
 use types::Memory;
 use types::NO_FLAT_COUNT;
+use types::flag_groups;
 use types::max;
 
 pub struct FlatTypes {
@@ -95,14 +96,17 @@ impl FlatTypes {
         }
     }
 
-    // Gives the list of so many flags; no flags have no types.
+    // Gives the list of so many flags: one I32, which is 0 in both words, for each group of 32 that they start. More than 16 are no list.
     pub fn flags(count: u32) -> FlatTypes
         ensures { λ r. ⌜ Holds r (λ m. some (flagsFlat count)) ⌝ }
     {
-        if count == 0 {
-            FlatTypes::EMPTY
-        } else {
-            FlatTypes::I32
+        let groups = flag_groups(count);
+        if groups > MAX_FLAT_TYPES {
+            return FlatTypes::NONE;
+        }
+        FlatTypes {
+            count: groups,
+            words: 0,
         }
     }
 

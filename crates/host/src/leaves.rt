@@ -79,7 +79,7 @@ pub extern "C" fn lampughjata_next_field(
     field_number(next_field(memory, info, end), k)
 }
 
-// Refuses BadCount above 32 labels.
+// Refuses BadCount above 512 labels.
 #[no_mangle]
 pub extern "C" fn lampughjata_flags(count: u32, k: u32) -> u64
     ensures { λ r. ⌜ r ≡ leafNumber (λ a. chosen k (abiWords a)) (flagsAnswer count) ⌝ }

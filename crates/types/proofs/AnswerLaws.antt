@@ -3,7 +3,7 @@ use mathlib.Core.Path.{_≡_, refl, sym, ap, _∙_}
 use mathlib.Core.Bool.{Bool, true, false, cond, not, _||_}
 use mathlib.Core.List.{List, [], _∷_}
 use mathlib.Core.Option.{some}
-use Prim.Native.Nat.{ℕ, zero, suc, _+_, _*_, _≤_, _<_, max, min}
+use Prim.Native.Nat.{ℕ, _+_, _*_, _≤_, max, min}
 use native.Mathlib.Omega.{arith}
 use lib.Dec.{eqb, ltb}
 use borrow.Author.Tests.{ltb-false}
@@ -29,7 +29,7 @@ use Rattle.canon.specs.Layout.{
   roundUp,
 }
 use Rattle.canon.specs.Placement.{fourGiB}
-use Rattle.canon.specs.Flat.{addFlat, greatestFlat, flagsCount, timesFlat}
+use Rattle.canon.specs.Flat.{addFlat, greatestFlat, timesFlat}
 use Rattle.canon.specs.Row.{Abi, goodAbi}
 use Rattle.canon.specs.Description.{someAbove}
 use Rattle.canon.proofs.Alignments.{discriminant-alignment}
@@ -139,8 +139,3 @@ unfolding enumAnswer addFlat greatestFlat
 enum-answer n =
     discriminant-then n (λ d. is (scalarAbi d))
     ∙ ap (λ (f : Layout). given (not (eqb n 0)) badCount (is (record { layouts = both (λ m. f); flats = some 1 }))) (sym (enum-layout n))
-
--- `flags`
-pub flags-some : (n : ℕ) → 0 < n → flagsCount n ≡ some 1
-flags-some zero h = absurd (omega arith)
-flags-some (suc n) h = refl

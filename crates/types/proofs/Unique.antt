@@ -52,6 +52,7 @@ use Rattle.types.proofs.flat.add_flat.Reads as add-flat-reads
 use Rattle.types.proofs.flat.max_flat.Reads as max-flat-reads
 use Rattle.types.proofs.discriminant.DiscriminantSize.from_count.Reads as from-count-reads
 use Rattle.types.proofs.discriminant.DiscriminantSize.byte_size.Reads as byte-size-reads
+use Rattle.types.proofs.flags.flag_groups.Reads as flag-groups-reads
 use Rattle.types.proofs.extent.Extent.is_large.Reads as is-large-reads
 use Rattle.types.proofs.extent.Extent.member.Reads as member-reads
 use Rattle.types.proofs.extent.Extent.close.Reads as close-reads
@@ -289,6 +290,9 @@ next-field32-unique a r q g h = next-one r q (g ∙ sym h)
 
 pub next-field64-unique : Single (next-field64-reads.Post tt)
 next-field64-unique a r q g h = next-one r q (g ∙ sym h)
+
+pub flag-groups-unique : Single (flag-groups-reads.Post tt)
+flag-groups-unique a r q g h = g ∙ sym h
 
 pub flags-unique : Single (flags-reads.Post tt)
 flags-unique a r q g h = info-one r q (g ∙ sym h)

@@ -23,6 +23,7 @@ use Rattle.canon.specs.Layout.{
   payloadOffset,
   variantLayout,
   variantNumbers,
+  grouped,
   flagsLayout,
   fixedLayout,
   largestNumber,
@@ -53,6 +54,10 @@ alignTo x a = given (isAlignment a) badRow (fitting (roundUp x a ∷ []) (roundU
 -- `scalar`: "alignment equal to size, flat 1"
 abbrev pub scalarAbi : ℕ → Abi
 scalarAbi n = record { layouts = both (λ m. square n); flats = some 1 }
+
+-- `grouped`: "four bytes for each started group of 32 labels, alignment 4, flat one I32 for each"
+abbrev pub groupedAbi : ℕ → Abi
+groupedAbi k = record { layouts = both (λ m. grouped k); flats = some k }
 
 -- `next_field32` and `next_field64`: "answer the offset and hand the moved end back"
 pub record Field : Type 0 where
@@ -132,7 +137,7 @@ enumAnswer n =
     given (not (eqb n 0)) badCount
     (is (record { layouts = both (λ m. variantLayout n []); flats = variantCount [] }))
 
--- `flags`. Refusal 5: "flags above 32"
+-- `flags`. Refusal 5: "flags above 512"
 unfoldable pub flagsAnswer : ℕ → Leaf Abi
 flagsAnswer n = given (leb n mostFlags) badCount (is (record { layouts = both (λ m. flagsLayout n); flats = flagsCount n }))
 

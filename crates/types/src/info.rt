@@ -1,10 +1,11 @@
 // An info holds what the canonical ABI says of a type, for both memories.
 ghost use mathlib.Core.Path.{_≡_};
 ghost use mathlib.Core.Bool.{true};
+ghost use Prim.Native.Nat.{_≤_};
 ghost use Rattle.canon.specs.Layout.{mem32, mem64};
 ghost use Rattle.canon.specs.Row.{isAlignment, goodAbi};
 ghost use Rattle.types.specs.Means.{memoryOf, countMeans, layoutMeans, layoutsMeans, extentsMeans, abiMeans, infoAnswerMeans, nextMeans};
-ghost use Rattle.types.specs.Leaves.{scalarAbi, fixedAnswer, fieldAfter, nextField, flagsAnswer, enumAnswer};
+ghost use Rattle.types.specs.Leaves.{scalarAbi, groupedAbi, fixedAnswer, fieldAfter, nextField, flagsAnswer, enumAnswer};
 ghost use Rattle.types.specs.States.{fittedAbi};
 use crate::both::Extents;
 use crate::both::Fitted;
@@ -13,13 +14,12 @@ use crate::discriminant::DiscriminantAnswer;
 use crate::discriminant::DiscriminantSize;
 use crate::extent::Extent;
 use crate::extent::Layout;
+use crate::flags::MAX_FLAGS;
+use crate::flags::flag_groups;
 use crate::flat::FlatCount;
 use crate::flat::times_flat;
 use crate::memory::Memory;
 use crate::refusal::Refusal;
-
-// Flags may have so many labels: 01 refuses "flags above 32".
-pub const MAX_FLAGS: u32 = 32;
 
 pub struct CanonicalAbiInfo {
     pub size32: u32,
@@ -189,7 +189,7 @@ impl CanonicalAbiInfo {
         }
     }
 
-    // Refuses BadCount above 32 labels. 01 gives up to 8 of them one byte, up to 16 two, up to 32 four.
+    // Refuses BadCount above 512 labels. Up to 8 have one byte, up to 16 two, more four for each group of 32 that they start.
     pub fn flags(count: u32) -> InfoAnswer
         ensures { λ r. ⌜ infoAnswerMeans r ≡ flagsAnswer count ⌝ }
     {
@@ -205,7 +205,22 @@ impl CanonicalAbiInfo {
         if count <= 16 {
             return InfoAnswer::Info(CanonicalAbiInfo::SCALAR2);
         }
-        InfoAnswer::Info(CanonicalAbiInfo::SCALAR4)
+        InfoAnswer::Info(CanonicalAbiInfo::grouped(flag_groups(count)))
+    }
+
+    // Gives each group of labels four bytes and one I32.
+    fn grouped(groups: u32) -> CanonicalAbiInfo
+        requires { ⌜ groups ≤ 16 ⌝ }
+        ensures { λ r. ⌜ abiMeans r ≡ groupedAbi groups ⌝ }
+    {
+        let size = 4 * groups;
+        CanonicalAbiInfo {
+            size32: size,
+            align32: 4,
+            size64: size,
+            align64: 4,
+            flat_count: FlatCount::Count(groups as u8),
+        }
     }
 
     // Refuses BadCount for no case.

@@ -40,6 +40,8 @@ pub enum Fault {
     OtherHalf,
     /// Rounding gives one alignment too much at a multiple.
     Rounding,
+    /// Of more than 32 flags the group that is not full is lost.
+    FullGroups,
     /// The port's built rows have the memories exchanged, after the comparison, so that they agree with the model.
     PortMemories,
     /// The same of the original's.
@@ -50,7 +52,7 @@ pub enum Fault {
     OriginalList,
 }
 
-pub const FAULTS: [Fault; 20] = [
+pub const FAULTS: [Fault; 21] = [
     Fault::OffsetOneOff,
     Fault::PositionOneOff,
     Fault::TableWord,
@@ -67,6 +69,7 @@ pub const FAULTS: [Fault; 20] = [
     Fault::LargeCount,
     Fault::OtherHalf,
     Fault::Rounding,
+    Fault::FullGroups,
     Fault::PortMemories,
     Fault::OriginalMemories,
     Fault::OriginalSize,
@@ -150,6 +153,7 @@ impl Fault {
                     *answer += u64::from(align);
                 }
             }
+            (Fault::FullGroups, Function::Flags) if refusal == 0 => *answer -= of_last_group(call),
             (Fault::Saturates, Function::FixedLengthList) if refusal == 6 => {
                 *answer = u64::from(u32::MAX);
             }
@@ -203,4 +207,15 @@ const BEYOND: usize = 4 * (MOST_WORDS + 1);
 /// Where a word of lent memory stands among its bytes, guards before it.
 fn offset(word: usize) -> usize {
     4 * (GUARD + word)
+}
+
+/// What a last group that is not full adds to the number that k chooses: four bytes, or one type.
+fn of_last_group(call: &Call) -> u64 {
+    let [count, k, ..] = call.numbers;
+    match k {
+        _ if count <= 32 || count % 32 == 0 => 0,
+        0 | 2 => 4,
+        1 | 3 => 0,
+        _ => 1,
+    }
 }

@@ -41,7 +41,7 @@ fn definition(random: &mut Random, shape: Shape, index: u64, words: &mut Vec<u32
         }
         3 | 8 => words.push(reference(random, index)),
         5 => words.extend([reference(random, index), reference(random, index)]),
-        6 => words.push(random.below(33) as u32),
+        6 => words.push(labels(random)),
         7 => words.push(cases_of_enum(random)),
         9 => words.extend([payload(random, index), payload(random, index)]),
         _ => words.extend([reference(random, index), elements(random, shape.large)]),
@@ -65,6 +65,16 @@ fn payload(random: &mut Random, index: u64) -> u32 {
         true => u32::MAX,
         false => reference(random, index),
     }
+}
+
+/// Flags of 33 to 512 labels, on both sides of where a group of 32 starts, and of up to 32.
+fn labels(random: &mut Random) -> u32 {
+    let labels = match random.below(4) {
+        0 => random.between(33, 512),
+        1 => 32 * random.between(1, 15) + random.below(2),
+        _ => random.below(33),
+    };
+    labels as u32
 }
 
 fn cases_of_enum(random: &mut Random) -> u32 {
@@ -124,8 +134,8 @@ fn damage(random: &mut Random, words: &mut Vec<u32>) {
 /// Words near every boundary, and any at all.
 pub fn any_word(random: &mut Random) -> u32 {
     let edges = [
-        0, 8, 10, 11, 12, 13, 14, 16, 17, 18, 32, 33, 63, 64, 65, 255, 256, 257, 1_087, 1_088,
-        16_382, 16_384, 65_536, 65_537,
+        0, 8, 10, 11, 12, 13, 14, 16, 17, 18, 32, 33, 63, 64, 65, 255, 256, 257, 512, 513, 1_087,
+        1_088, 16_382, 16_384, 65_536, 65_537,
     ];
     match random.below(6) {
         0 => random.word(),

@@ -30,8 +30,9 @@ const SEED: u64 = 1;
 /// The file stays below this many bytes.
 const MOST_BYTES: usize = 59_000;
 
-/// Descriptions that stand in the list whatever the random ones are: 01's, and one for each kind.
-const CHOSEN: [&[u32]; 24] = [
+/// Descriptions that stand in the list whatever the random ones are: 01's, order 4's, and one for
+/// each kind.
+const CHOSEN: [&[u32]; 25] = [
     &[],
     &[1, 0],
     &[1, 2, 2, 6],
@@ -43,6 +44,7 @@ const CHOSEN: [&[u32]; 24] = [
     &[7, 257],
     &[7, 65_537],
     &[6, 0, 6, 8, 6, 9, 6, 17],
+    &[6, 33, 6, 512, 1, 2, 64, 65],
     &[10, 6, 16, 10, 6, 17],
     &[10, 4, 2_147_483_647],
     &[10, 2, 4_294_967_294, 8, 64],

@@ -1,8 +1,8 @@
 //! Stand-in for wasmtime-component-util, which is not among the published files.
 //!
-//! `DiscriminantSize::from_count` and `FlagsSize::from_count` are written from document 01 and the
-//! standard, not from the crate. A discriminant's or a flags' size that is compared with this oracle
-//! is therefore compared with the document and not with the Rust. The interface (variants,
+//! `DiscriminantSize::from_count` and `FlagsSize::from_count` are written from document 01, order 4 of
+//! 02 and the standard, not from the crate. A discriminant's or a flags' size that is compared with this
+//! oracle is therefore compared with the document and not with the Rust. The interface (variants,
 //! `byte_size`, `From`) is the one that types.rs and types_builder.rs use.
 
 #[derive(Debug, Copy, Clone, PartialEq, Eq, Hash)]
@@ -50,8 +50,8 @@ pub enum FlagsSize {
 }
 
 impl FlagsSize {
-    /// 01: "n = 0 gives 0, 1, flat 0; to 8, one byte; to 16, two; to 32, four". Above 32, which 01
-    /// refuses: four bytes for each started group of 32, which is how types.rs reads `Size4Plus`.
+    /// 01: "n = 0 gives 0, 1, flat 0; to 8, one byte; to 16, two; to 32, four". Above 32 (02, order 4):
+    /// "four bytes and one flat I32 for each started group of 32 labels", as types.rs reads `Size4Plus`.
     pub const fn from_count(count: usize) -> FlagsSize {
         if count == 0 {
             FlagsSize::Size0

@@ -102,11 +102,11 @@ impl<'a> Head<'a> {
         })
     }
 
-    /// "Variant or enum with n = 0, flags above 32."
+    /// "Variant or enum with n = 0, flags above 512", as order 4 amends it.
     fn test_count(&self) -> Result<(), u64> {
         let bad = match self.kind {
             2 | 7 => self.count == 0,
-            6 => self.count > 32,
+            6 => self.count > layout::MOST_LABELS,
             _ => false,
         };
         if bad { Err(number::BAD_COUNT) } else { Ok(()) }

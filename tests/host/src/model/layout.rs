@@ -5,6 +5,8 @@ use std::sync::LazyLock;
 pub const LIMIT: u64 = 4_294_967_295;
 /// "A sum or product above 16 is none."
 pub const FLAT_MAX: u64 = 16;
+/// Order 4: "5 now begins at 513".
+pub const MOST_LABELS: u64 = 512;
 
 #[derive(Clone, Copy, PartialEq, Eq, Debug)]
 pub enum Core {
@@ -138,7 +140,9 @@ pub fn scalar_of(reference: u32) -> Option<&'static Type> {
     SCALARS.get(reference as usize)
 }
 
-/// "Flags: n = 0 gives 0, 1, flat 0; to 8, one byte; to 16, two; to 32, four." None above 32.
+/// "Flags: n = 0 gives 0, 1, flat 0; to 8, one byte; to 16, two; to 32, four, alignment equal to size and
+/// flat 1." Order 4: "above 32, alignment 4, size four bytes and one flat I32 for each started group of 32
+/// labels", up to 512 labels. None above.
 pub fn flags(count: u64) -> Option<Type> {
     match count {
         0 => Some(Type {
@@ -149,7 +153,20 @@ pub fn flags(count: u64) -> Option<Type> {
         1..=8 => Some(scalar(1, Core::I32)),
         9..=16 => Some(scalar(2, Core::I32)),
         17..=32 => Some(scalar(4, Core::I32)),
+        33..=MOST_LABELS => Some(groups(count)),
         _ => None,
+    }
+}
+
+/// The labels 0, 32, 64 and so on start a group each.
+fn groups(count: u64) -> Type {
+    let started = (0..count).step_by(32).count();
+    let size = 4 * started as u64;
+    let flat = vec![Core::I32; started];
+    Type {
+        layout: [Layout { size, align: 4 }; 2],
+        flat: Some([flat.clone(), flat]),
+        borrow: false,
     }
 }
 

@@ -1,5 +1,5 @@
-//! 01's examples, with 01's own numbers written out. What the three say is compared as anywhere; here
-//! the model's answers are held to the paper too.
+//! 01's examples and order 4's, with the papers' own numbers written out. What the three say is compared as
+//! anywhere; here the model's answers are held to the papers too.
 use crate::calls::{Question, Side};
 use crate::compare::{Built, Run};
 use crate::{encode, model};
@@ -75,9 +75,26 @@ fn counts(run: &mut Run) {
         let built = accepted(run, &[6, labels], 1);
         row_is(run, &built, 0, &[1, 3], &[size; 2]);
     }
+    flags_of_groups(run);
     let built = accepted(run, &[10, U32, 16, 10, U32, 17], 2);
     row_is(run, &built, 0, &[5], &[16]);
     row_is(run, &built, 1, &[5], &[255]);
+}
+
+/// Order 4: "alignment 4, size four bytes and one flat I32 for each started group of 32 labels", "512 gives
+/// 64 bytes, flat 16", "5 now begins at 513".
+fn flags_of_groups(run: &mut Run) {
+    for (labels, groups) in [(32, 1), (33, 2), (64, 2), (65, 3), (512, 16)] {
+        let size = 4 * groups;
+        let built = accepted(run, &[6, labels], 1);
+        row_is(run, &built, 0, &SIZE_ALIGN, &[size, 4, size, 4]);
+        row_is(run, &built, 0, &[5, 6, 7], &[groups, 0, 0]);
+    }
+    refused(run, &[6, 513], 5, 0);
+    let built = accepted(run, &[6, 512, 1, 2, 64, U8], 2);
+    row_is(run, &built, 1, &[1, 5], &[68, 255]);
+    let built = accepted(run, &[6, 40, 10, 64, 8], 2);
+    row_is(run, &built, 1, &[1, 5], &[64, 16]);
 }
 
 fn large(run: &mut Run) {

@@ -1,4 +1,5 @@
 //! The leaves: all flat pairs, rounding around every boundary, every count around its own.
+use super::questions;
 use crate::calls::{Info, Leaf};
 use crate::compare::Run;
 use crate::generate;
@@ -232,6 +233,24 @@ fn variant(run: &mut Run, cases: Vec<u32>) {
     }
 }
 
+/// Flags of each number of labels in types of every kind that takes a reference, and questions about them.
+fn flags_in_others(run: &mut Run) {
+    for labels in 0..=513 {
+        let mut words = vec![6, labels];
+        // A record and a tuple.
+        words.extend([1, 3, 2, 64, 8, 4, 2, 64, 64]);
+        // A variant, an option and a result, which join their types with others.
+        words.extend([2, 3, 64, 10, 9, 8, 64, 9, 64, 12]);
+        // A list and a map.
+        words.extend([3, 64, 5, 64, 2]);
+        // Fixed lists with fewer and with more than sixteen types.
+        words.extend((0..=17).flat_map(|elements| [10, 64, elements]));
+        let mut built = run.description(&words);
+        questions::whole_type(run, &mut built.subject, 64);
+        questions::lists(run, &mut built.subject, &[64], &[64, 65]);
+    }
+}
+
 pub fn counts(run: &mut Run) {
     let around = |middle: u32| middle - 3..=middle + 3;
     let mut counts: Vec<u32> = (0..=600).collect();
@@ -248,6 +267,7 @@ pub fn counts(run: &mut Run) {
         run.description(&[6, count]);
         run.description(&[7, count]);
     }
+    flags_in_others(run);
     // Variants of each number of cases, with and without a payload at the last.
     for cases in (1..=300).chain([16_382]) {
         for last in [u32::MAX, 2, 8, 12] {
