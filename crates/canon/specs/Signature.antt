@@ -62,18 +62,18 @@ unfoldable pub orPointer : Memory → Flattened → List Core
 orPointer m (listed l) = l
 orPointer m inMemory = ptrType m ∷ []
 
--- "parameters are the lower side's, maximum 16, or 4 if lower is async; results are the mapOption side's parameter types, maximum 16"
+-- "parameters are the lower side's, maximum 16, or 4 if lower is async; results are the lift side's parameter types, maximum 16"
 unfoldable pub startOf : Side → Option (List Core) → Side → Option (List Core) → Signature
-startOf lower params mapOption results =
+startOf lower params lift results =
     record {
       params = orPointer (lower .memory) (atMost (paramsMax (lower .async)) params);
-      results = orPointer (mapOption .memory) (atMost 16 results);
+      results = orPointer (lift .memory) (atMost 16 results);
     }
 
--- "start has lower then mapOption"
+-- "start has lower then lift"
 unfoldable pub asyncStartAnswer : List ℕ → ℕ → Side → List ℕ → Side → List ℕ → Answer Signature
-asyncStartAnswer t n lower vs mapOption ws =
-    askTwo t n vs ws (λ is′ js. ok (startOf lower (flatAll (lower .memory) is′) mapOption (flatAll (mapOption .memory) js)))
+asyncStartAnswer t n lower vs lift ws =
+    askTwo t n vs ws (λ is′ js. ok (startOf lower (flatAll (lower .memory) is′) lift (flatAll (lift .memory) js)))
 
 -- whether lower's results go behind a pointer: "lower is async and its result list is not empty, or is sync and flattens at maximum 1
 -- to 'memory'"
@@ -87,19 +87,19 @@ abbrev pub listOrNone : Flattened → List Core
 listOrNone (listed l) = l
 listOrNone inMemory = []
 
--- "one more mapOption pointer follows and there are no results. Otherwise results are lower's flat list"
+-- "one more lift pointer follows and there are no results. Otherwise results are lower's flat list"
 unfoldable pub returned : Memory → Bool → List Core → List Core → Signature
-returned mapOption true params results = record { params = params ++ ptrType mapOption ∷ []; results = [] }
-returned mapOption false params results = record { params = params; results = results }
+returned lift true params results = record { params = params ++ ptrType lift ∷ []; results = [] }
+returned lift false params results = record { params = params; results = results }
 
--- "parameters are the lifting of the mapOption results, or one mapOption pointer"; isEmpty is whether lower has no references
+-- "parameters are the lifting of the lift results, or one lift pointer"; isEmpty is whether lower has no references
 unfoldable pub returnOf : Side → Option (List Core) → Side → Option (List Core) → Bool → Signature
-returnOf mapOption params lower results isEmpty =
-    returned (mapOption .memory) (behindPointer (lower .async) isEmpty (atMost 1 results))
-    (orPointer (mapOption .memory) (atMost (liftingMax (mapOption .async)) params))
+returnOf lift params lower results isEmpty =
+    returned (lift .memory) (behindPointer (lower .async) isEmpty (atMost 1 results))
+    (orPointer (lift .memory) (atMost (liftingMax (lift .async)) params))
     (listOrNone (atMost 1 results))
 
--- "return mapOption then lower"
+-- "return lift then lower"
 unfoldable pub asyncReturnAnswer : List ℕ → ℕ → Side → List ℕ → Side → List ℕ → Answer Signature
-asyncReturnAnswer t n mapOption vs lower ws =
-    askTwo t n vs ws (λ is′ js. ok (returnOf mapOption (flatAll (mapOption .memory) is′) lower (flatAll (lower .memory) js) (eqb (length ws) 0)))
+asyncReturnAnswer t n lift vs lower ws =
+    askTwo t n vs ws (λ is′ js. ok (returnOf lift (flatAll (lift .memory) is′) lower (flatAll (lower .memory) js) (eqb (length ws) 0)))
