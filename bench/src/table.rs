@@ -14,8 +14,8 @@ pub fn capacity(words: usize) -> usize {
 /// Where a word of a row stands in a table with room for so many rows: the one place of this program
 /// that knows.
 #[inline]
-fn place(_capacity: usize, row: usize, word: usize) -> usize {
-    ROW * row + word
+fn place(capacity: usize, row: usize, word: usize) -> usize {
+    word * capacity + row
 }
 
 /// One word of a row.

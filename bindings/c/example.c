@@ -1,12 +1,13 @@
 /* Lays out the record (U8, String, U8), which a component may hand to another, and says as which core
- * types it travels. ./run compiles this, links the port's static library to it and runs it. */
+ * types it travels; and lists one property of all types that are defined, the record and an option of it.
+ * ./run compiles this, links the port's static library to it and runs it. */
 #include "lampughjata.h"
 
 #include <stdio.h>
 
 /* Words of a description: scalars and String are themselves, definition j is 64 + j. */
 enum { U8 = 2, STRING = 12, DEFINITION_0 = 64 };
-enum { RECORD = 1 };
+enum { RECORD = 1, OPTION = 8 };
 
 /* The two memories, and the two ways to call. */
 enum { MEMORY32 = 0, MEMORY64 = 1 };
@@ -16,7 +17,8 @@ enum { SYNC = 0, ASYNC = 1 };
 enum { SIZE32, ALIGN32, SIZE64, ALIGN64, FLAT_COUNT, FLAT32, FLAT64, BORROW };
 enum { PARAMETERS, RESULTS };
 
-enum { ROW = 16 };
+/* A row has so many words; which of them is the size in a 64-bit memory; room for so many rows. */
+enum { ROW = 16, WORD_SIZE64 = 3, CAPACITY = 4, TABLE = CAPACITY * ROW };
 
 /* Takes the refusal out of an answer: nonzero if there was one, and then says so. */
 static int is_refused(const char *call, uint64_t answer)
@@ -91,15 +93,25 @@ static int print_async_start(const uint32_t *table, size_t words, uint32_t rows)
     return 0;
 }
 
+/* One word of every row: the table has a run for each word, as long as there is room for rows. */
+static void print_sizes(const uint32_t *table, uint32_t rows)
+{
+    const uint32_t *sizes = table + WORD_SIZE64 * CAPACITY;
+    printf("sizes in a 64-bit memory:");
+    for (uint32_t i = 0; i < rows; i++) printf(" %u", (unsigned)sizes[i]);
+    printf("\n");
+}
+
 int main(void)
 {
-    static const uint32_t description[] = {RECORD, 3, U8, STRING, U8};
-    uint32_t table[ROW];
-    uint64_t built = lampughjata_build(description, 5, table, ROW);
+    static const uint32_t description[] = {RECORD, 3, U8, STRING, U8, OPTION, DEFINITION_0};
+    uint32_t table[TABLE];
+    uint64_t built = lampughjata_build(description, 7, table, TABLE);
     if (is_refused("build", built)) return 1;
     uint32_t rows = (uint32_t)built;
-    printf("build: %u definition\n", (unsigned)rows);
+    printf("build: %u definitions\n", (unsigned)rows);
+    print_sizes(table, rows);
 
-    return print_type(table, ROW, rows) || print_placement(MEMORY32, table, ROW, rows) ||
-           print_placement(MEMORY64, table, ROW, rows) || print_async_start(table, ROW, rows);
+    return print_type(table, TABLE, rows) || print_placement(MEMORY32, table, TABLE, rows) ||
+           print_placement(MEMORY64, table, TABLE, rows) || print_async_start(table, TABLE, rows);
 }

@@ -6,7 +6,7 @@
  * Each call has examples, which the project compiles and holds to the library (`bindings/c/run --tests`). They are about the record
  * (U8, String, U8), and each stands on those before it:
  *
- *     uint32_t words[] = {1, 3, 2, 12, 2}, table[16], members[] = {2, 12, 2}, offsets[3], record[] = {64};
+ *     uint32_t words[] = {1, 3, 2, 12, 2}, table[16], longer[40], members[] = {2, 12, 2}, offsets[3], record[] = {64};
  *     uint32_t infos[] = {1, 1, 1, 1, 1, 8, 4, 16, 8, 2}, cases[] = {0, 0, 0, 0, 0, 0, 1, 8, 4, 16, 8, 2};
  *     const uint64_t REFUSED = (uint64_t)1 << 56, ALIGN = (uint64_t)1 << 32, COUNT = (uint64_t)1 << 40, MEMORY = (uint64_t)1 << 55;
  */
@@ -73,8 +73,14 @@ uint64_t lampughjata_record(const uint32_t *infos, size_t infos_len, uint32_t k)
  *     lampughjata_variant(cases, 12, 7) == 8 */
 uint64_t lampughjata_variant(const uint32_t *cases, size_t cases_len, uint32_t k);
 
-/* Writes the rows of a description, sixteen words each, and answers how many.
+/* Writes a row of sixteen words for each definition, and answers how many. The table's capacity is table_len / 16, at most 1024.
+ * The table is sixteen runs, one for each word of a row, and each as long as the capacity: table + w * capacity is the column of
+ * word w, with an entry for each definition. HOST.md says what each word is. Lend the table to a question with the length that it
+ * was built with: with another it may have another capacity, and so other columns.
  *     lampughjata_build(words, 5, table, 16) == 1
+ *     table[1] == 16
+ *     lampughjata_build(words, 5, longer, 40) == 1
+ *     longer[1 * 2] == 16
  *     lampughjata_build(words, 5, NULL, 0) == 7 * REFUSED */
 uint64_t lampughjata_build(const uint32_t *words, size_t words_len, uint32_t *table, size_t table_len);
 
@@ -130,7 +136,7 @@ uint64_t lampughjata_async_return(uint32_t lift_memory, uint32_t lift_async, uin
 uint64_t lampughjata_contains_borrow(const uint32_t *table, size_t table_len, uint32_t rows,
     const uint32_t *references, size_t references_len);
 
-/* The same over little-endian bytes, which need not be aligned.
+/* The same over little-endian bytes, which need not be aligned; a table's capacity is that of its whole words, table_len / 64.
  *     lampughjata_record_bytes((uint8_t *)infos, 40, 0) == 12
  *     lampughjata_variant_bytes((uint8_t *)cases, 48, 7) == 8
  *     lampughjata_build_bytes((uint8_t *)words, 20, (uint8_t *)table, 64) == 1

@@ -23,7 +23,7 @@ pub enum Refusal {
     TooLarge = 6,
     /// The lent buffer is too short: for the next definition's row, or for the offsets.
     NoRoom = 7,
-    /// More than 1,024 rows, a table shorter than its rows, or a row that was read and is not well formed.
+    /// More rows than the table has room for, or a row that was read and is not well formed.
     BadRow = 8,
 }
 
@@ -62,7 +62,7 @@ impl fmt::Display for Refusal {
             Refusal::BadCount => "a bad count: no case, more than 512 flags, or a maximum above 16",
             Refusal::TooLarge => "an offset or a size is above 4294967295",
             Refusal::NoRoom => "the buffer has no room for the next row or for all offsets",
-            Refusal::BadRow => "more than 1024 rows, too short a table, or a row not well formed",
+            Refusal::BadRow => "more rows than the table has room for, or a row not well formed",
         })
     }
 }

@@ -117,7 +117,7 @@ impl Info {
     }
 }
 
-/// Rows of sixteen words, one for each definition of a description.
+/// Rows of sixteen words, one for each definition of a description, stored by columns ([`Table::words`]).
 ///
 /// `W` holds the words: a vector if the table owns them, a slice if it borrows them. A table may come
 /// from anywhere, since a question tests each row that it reads.
@@ -156,8 +156,8 @@ fn capacity(words: usize) -> usize {
 
 /// Where a word of a row stands in a table with room for so many rows: the one place of this crate that
 /// knows.
-fn place(_capacity: usize, row: usize, word: usize) -> usize {
-    ROW * row + word
+fn place(capacity: usize, row: usize, word: usize) -> usize {
+    word * capacity + row
 }
 
 impl Table {
@@ -182,8 +182,8 @@ impl Table {
 }
 
 impl<'a> Table<&'a [u32]> {
-    /// Builds the table of a description in a lent buffer of sixteen words for each definition. Of a
-    /// refused description the rows before the refused definition are in the buffer; all other words
+    /// Builds the table of a description in a lent buffer of sixteen words for each definition, or more.
+    /// Of a refused description the rows before the refused definition are in the buffer; all other words
     /// keep their values.
     ///
     /// ```
@@ -213,8 +213,10 @@ fn build_rows(description: &[u32], table: &mut [u32]) -> Result<u32> {
 }
 
 impl<W: AsRef<[u32]>> Table<W> {
-    /// The table of `rows` rows that stand in `words`, whoever wrote them. Nothing is tested here: a
-    /// question answers BadRow if the words do not suffice, or if a row that it reads is not well formed.
+    /// The table of `rows` rows that stand in `words`, whoever wrote them. It takes the whole buffer that
+    /// the table was built in: where a word stands depends on the length, so a part of a table is another table.
+    /// Nothing is tested here: a question answers BadRow if the words do not suffice, or if a row that it
+    /// reads is not well formed.
     ///
     /// ```
     /// # use lampughjata::{Reference, Refusal, Table};
@@ -226,7 +228,8 @@ impl<W: AsRef<[u32]>> Table<W> {
         Table { words, rows }
     }
 
-    /// The table's buffer: its rows, and what else there is in it.
+    /// The table's whole buffer: sixteen runs, one for each word of a row, each a sixteenth of the words
+    /// long (rounded down, 1,024 at most), and then what else there is in it.
     pub fn words(&self) -> &[u32] {
         self.words.as_ref()
     }
@@ -253,6 +256,28 @@ impl<W: AsRef<[u32]>> Table<W> {
         let index = index as usize;
         let is_there = index < capacity && index < self.rows as usize;
         is_there.then(|| std::array::from_fn(|word| words[place(capacity, index, word)]))
+    }
+
+    /// One word of every row, in the order of the definitions, untested: what a viewer scans that wants
+    /// one property of all types. None for a word that no row has, and if the buffer has no
+    /// room for so many rows.
+    ///
+    /// ```
+    /// # use lampughjata::{Description, Reference, Table};
+    /// let mut description = Description::new();
+    /// description.option(Reference::U64);
+    /// description.list(Reference::U8);
+    /// let table = Table::build(description.words())?;
+    /// assert_eq!(table.column(1), Some(&[16, 8][..]), "the sizes in a 32-bit memory");
+    /// assert_eq!(table.column(16), None);
+    /// # Ok::<(), lampughjata::Refused>(())
+    /// ```
+    pub fn column(&self, word: usize) -> Option<&[u32]> {
+        let words = self.words();
+        let capacity = capacity(words.len());
+        let rows = self.rows as usize;
+        let is_there = word < ROW && rows <= capacity;
+        is_there.then(|| &words[place(capacity, 0, word)..][..rows])
     }
 
     /// What the canonical ABI says of one type.

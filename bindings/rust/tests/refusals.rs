@@ -142,10 +142,11 @@ fn a_placement_too_large_names_the_member() {
 #[test]
 fn tables_from_elsewhere_are_tested() {
     let flags = Reference::definition(0);
-    let says = "more than 1024 rows, too short a table, or a row not well formed (refusal 8 at \
+    let says = "more rows than the table has room for, or a row not well formed (refusal 8 at \
                 reference 0 or the whole)";
     let short = Table::from_words([0; 15], 1);
     assert_eq!(refused(short.type_of(flags)), at_reference(8, 0, says));
+    assert_eq!((short.row(0), short.column(0)), (None, None));
     let bad = Table::from_words(vec![0; 16], 1);
     assert_eq!(refused(bad.type_of(flags)), at_reference(8, 0, says));
 
@@ -154,9 +155,15 @@ fn tables_from_elsewhere_are_tested() {
     assert_eq!(lent.type_of(flags), built.type_of(flags));
 }
 
-/// Words of a buffer that hold 9, which no row of these flags does.
-fn kept(buffer: &[u32]) -> usize {
-    buffer.iter().filter(|word| **word == 9).count()
+/// The row of flags with 1 to 8 labels.
+const FLAGS: [u32; 16] = [6, 1, 1, 1, 1, 1, 0, 0, 0, 0, 0, 0, 0, 0, 0, 0];
+
+/// Forty words that held 9, with room for two rows, after so many rows of flags were built in them.
+fn forty_with(rows: usize) -> [u32; 40] {
+    std::array::from_fn(|place| match place {
+        0..32 if place % 2 < rows => FLAGS[place / 2],
+        _ => 9,
+    })
 }
 
 #[test]
@@ -164,7 +171,7 @@ fn a_lent_buffer_keeps_its_other_words() {
     let mut buffer = [9; 40];
     let table = Table::build_in(&[6, 1, 6, 8], &mut buffer).unwrap();
     assert_eq!(table.rows(), 2);
-    assert_eq!(kept(&buffer), 8);
+    assert_eq!(buffer, forty_with(2));
 
     let mut buffer = [9; 40];
     let refused = Table::build_in(&[6, 1, 6, 513], &mut buffer).unwrap_err();
@@ -175,9 +182,18 @@ fn a_lent_buffer_keeps_its_other_words() {
             place: Place::Definition(1),
         }
     );
-    let row = Table::from_words(&buffer, 1).row(0).unwrap();
-    assert_eq!(row[0], 6, "the row before is written");
-    assert_eq!(kept(&buffer), 24);
+    assert_eq!(buffer, forty_with(1), "the row before is written");
+}
+
+#[test]
+fn a_part_of_a_table_is_another_table() {
+    let mut buffer = [0; 48];
+    let built = Table::build_in(&[6, 1, 8, 64], &mut buffer).unwrap();
+    let flags = Reference::definition(0);
+    assert_eq!(built.row(0), Some(FLAGS));
+    let part = Table::from_words(&built.words()[..32], 2);
+    let (number, ..) = refused(part.type_of(flags));
+    assert_eq!(number, 8);
 }
 
 #[test]

@@ -6,7 +6,7 @@ use mathlib.Core.Option.{Option, none, some}
 use Prim.Native.Nat.{ℕ, zero, suc, _<_}
 use native.Mathlib.Omega.{arith}
 use lib.Dec.{ltb}
-use lib.ListN.{length, getD, take, getElem?, length-map}
+use lib.ListN.{length, getD, take, getElem?}
 use borrow.Author.Tests.{ltb-false}
 use Rattle.canon.specs.Answer.{is, tooLarge}
 use Rattle.canon.specs.Types.{Ty, recordOf, tupleOf, Members, Kind}
@@ -19,8 +19,7 @@ use Rattle.canon.proofs.Tests.{impossible}
 use Rattle.canon.proofs.Alignments.{members-aligned}
 use Rattle.canon.proofs.Tightest.{greatestAlign-least, ours, tightest}
 use Rattle.canon.proofs.Sizes.{tooLarge-size}
-use Rattle.canon.proofs.Cells.{room-fits, length-putRows, row-at}
-use Rattle.canon.proofs.Built.{build-keeps, built-sound, every-sixteen, passed-test, every-snoc}
+use Rattle.canon.proofs.Built.{build-keeps, passed-test, every-snoc, row-built}
 use Rattle.canon.proofs.Refusals.{Product, aRecord, aTuple, Tightest}
 use Rattle.build.specs.Means.{accepted}
 
@@ -84,13 +83,7 @@ module _ (ws t : List ℕ) (i : ℕ) (u : Ty) (stands : getElem? (built ws t .ty
   found = there (built ws t .types) i u (all-fit ws t) stands
 
   pub row-is : rowAt (tableAfter ws t) i ≡ rowOf u
-  unfolding tableAfter
-  row-is =
-      let ts = built ws t .types in
-      rw (length-putRows (capacity (length t)) 0 (map rowOf ts) t)
-      (row-at (capacity (length t)) (length t) (map rowOf ts) t i (room-fits (length t) .1) (every-sixteen ts)
-      (omega (arith, built-sound ws t .fits, length-map ts rowOf)) refl (omega (arith, found .inside, length-map ts rowOf))
-      ∙ found .row)
+  row-is = row-built ws t i (found .inside) ∙ found .row
 
   pub fits-in : (m : Memory) → isTooLarge m u ≡ false
   fits-in m = go m (isTooLarge mem32 u) (isTooLarge mem64 u) refl refl (found .fits)

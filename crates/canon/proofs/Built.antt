@@ -12,7 +12,7 @@ use Rattle.canon.specs.Answer.{Leaf, is, no as refuses, mapOption, mapOp
 use Rattle.canon.specs.Types.{Ty, recordOf, variantOf, listOf, tupleOf, mapOf, flagsOf, enumOf, optionOf, resultOf, fixedOf, plain, Kind, kRecord, kVariant, kList, kTuple, kMap, kFlags, kEnum, kOption, kResult, kFixed}
 use Rattle.canon.specs.Layout.{mem32, mem64}
 use Rattle.canon.specs.Row.{Info, rowOf}
-use Rattle.canon.specs.Table.{capacity, cellsFrom, putRows}
+use Rattle.canon.specs.Table.{capacity, cellsFrom, rowAt, putRows}
 use Rattle.canon.specs.Description.{reference, caseOf, membersOf, casesOf, kindOf, shapeOf, bodyLength, isBadCount, typeOf, isTooLarge, Defined, checked, bodied, define, follow, buildFrom, build, built, mostWords, tableAfter}
 use Rattle.canon.specs.Question.{plainInfo, readRow, read}
 use Rattle.canon.proofs.Tests.{impossible}
@@ -169,6 +169,15 @@ lost-take (t ∷ ts) (suc n) (suc j) h = lost-take ts n j (omega arith)
 -- what a reference to the types ts gives
 abbrev pub typeInfo : List Ty → ℕ → Leaf Info
 typeInfo ts w = plainInfo (reference ts w)
+
+-- the row i of a build's table is the one of its type i
+pub row-built : (ws t : List ℕ) (i : ℕ) → i < length (built ws t .types) → rowAt (tableAfter ws t) i ≡ getD (map rowOf (built ws t .types)) i []
+unfolding tableAfter
+row-built ws t i h =
+    let ts = built ws t .types in
+    rw (length-putRows (capacity (length t)) 0 (map rowOf ts) t)
+    (row-at (capacity (length t)) (length t) (map rowOf ts) t i (room-fits (length t) .1) (every-sixteen ts)
+    (omega (arith, built-sound ws t .fits, length-map ts rowOf)) refl (omega (arith, length-map ts rowOf)))
 
 row-read : (ts : List Ty) (t : List ℕ) (j : ℕ) (room : ℕ) → Sound room ts → 16 * room ≤ length t → j < length ts →
     readRow (cellsFrom room (putRows room 0 (map rowOf ts) t) j 0 16) ≡ plainInfo (getElem? ts j)

@@ -1,28 +1,28 @@
--- A table, a buffer or a list that is longer than any call can use answers as its first words do: no row and no offset stands beyond the word
+-- A table, a buffer or a list that is longer than any call can use answers as its first words do: no cell and no offset stands beyond the word
 -- 16,384, and one reference more than 16,384 is too many already. Nor can a build use more rows than one for two words.
 use mathlib.Core.Path.{_≡_, refl, sym, ap, ap₂, _∙_, fun-ext}
-use mathlib.Core.Bool.{Bool, true, false, cond, _||_}
+use mathlib.Core.Bool.{Bool, false, cond, _||_}
 use mathlib.Core.List.{List, [], _∷_, _++_, map, append-assoc}
 use mathlib.Core.Option.{some}
-use Prim.Native.Nat.{ℕ, zero, suc, _+_, _*_, _-_, _≤_, _<_, min}
+use Prim.Native.Nat.{ℕ, zero, suc, _+_, _*_, _≤_, _<_, min}
 use native.Mathlib.Decide.{decLe}
 use native.Mathlib.Omega.{arith}
-use lib.Dec.{leb, ltb}
-use lib.ListN.{length, take, drop, set, getElem?, length-set, length-take, length-drop, length-map, take-append-drop}
+use lib.Dec.{ltb}
+use lib.ListN.{length, take, drop, set, length-set, length-take, length-drop, length-map, take-append-drop}
 use lib.Seq.{take-all, getD-take, set-append-left}
-use borrow.Author.Tests.{ltb-true, ltb-false, lt-ltb, le-ltb}
-use Rattle.canon.specs.Answer.{Leaf, is, no as refuses, Answer, ok, refused, then, unless, tooLong, badRef, badCount, noRoom, badRow}
+use borrow.Author.Tests.{ltb-false, lt-ltb, le-ltb}
+use Rattle.canon.specs.Answer.{Leaf, is, no as refuses, Answer, ok, refused, then, unless, tooLong, badCount, noRoom, badRow}
 use Rattle.canon.specs.Layout.{Memory}
 use Rattle.canon.specs.Row.{Info, rowOf}
 use Rattle.canon.specs.Table.{capacity, place, cell, cellsFrom, rowAt, putFrom, putRows}
 use Rattle.canon.specs.Description.{kindOf, Defined, define, follow, buildFrom, mostWords, build, built, buildAnswer, tableAfter}
-use Rattle.canon.specs.Question.{plainInfo, readRow, read, infos, tooMany, noTable, ask, askTwo, layoutsIn, Placing, placed, placing, placementAnswer, bufferAfter, offsetsAfter}
-use Rattle.canon.specs.Types.{Ty, plain}
+use Rattle.canon.specs.Question.{read, infos, tooMany, noTable, ask, askTwo, layoutsIn, Placing, placed, placing, placementAnswer, bufferAfter, offsetsAfter}
+use Rattle.canon.specs.Types.{Ty}
 use Rattle.canon.proofs.Tests.{neither}
-use Rattle.canon.proofs.Cells.{place-fits, room-fits, length-putFrom}
+use Rattle.canon.proofs.Cells.{place-fits, room-fits, rows-there, length-putFrom}
 use Rattle.canon.proofs.Built.{define-some, every-sixteen, built-sound}
 use Rattle.canon.specs.Placement.{Every}
-use Rattle.canon.proofs.Questions.{placing-starts, offsets-length}
+use Rattle.canon.proofs.Questions.{past-test, rows-alike, asked-alike, placing-starts, offsets-length}
 
 -- Tests
 
@@ -34,12 +34,6 @@ below-first c a b h =
       | no l ↦ lt-ltb (min c a) b (omega arith) ∙ sym (lt-ltb a b (omega arith))
     ]
 
--- two answers behind one test agree where they agree when it is passed
-past-test : {A : Type 0} (b : Bool) (x : ℕ) {u v : Answer A} → (b ≡ false → u ≡ v) → unless b x u ≡ unless b x v
-unfolding unless
-past-test true x h = refl
-past-test false x h = h refl
-
 -- Rows
 
 room-first : (t : List ℕ) → capacity (length (take 16384 t)) ≡ capacity (length t)
@@ -48,11 +42,7 @@ room-first t = rw (length-take 16384 t) (omega arith)
 
 pub table-first : (t : List ℕ) (n : ℕ) → noTable (take 16384 t) n ≡ noTable t n
 unfolding noTable
-table-first t n =
-    elim (decLe n 1024) [
-      | yes l ↦ rw (length-take 16384 t, below-first 16384 (length t) (16 * n) (omega arith))
-      | no l ↦ rw (lt-ltb 1024 n (omega arith))
-    ]
+table-first t n = rw (room-first t)
 
 cells-first : (t : List ℕ) (row k n : ℕ) → row < 1024 → k + n ≤ 16 → cellsFrom 1024 (take 16384 t) row k n ≡ cellsFrom 1024 t row k n
 unfolding cellsFrom cell
@@ -69,20 +59,14 @@ row-first t row h =
 
 pub read-first : (t : List ℕ) (n : ℕ) → n ≤ 1024 → read (take 16384 t) n ≡ read t n
 unfolding read
-read-first t n h = fun-ext (λ w. ap (λ (l : Leaf Info). cond (leb 64 w) l (plainInfo (getElem? plain w))) (row w (ltb (w - 64) n) refl))
-  where
-    row : (w : ℕ) (b : Bool) → ltb (w - 64) n ≡ b → cond b (readRow (rowAt (take 16384 t) (w - 64))) (refuses badRef) ≡ cond b (readRow (rowAt t (w - 64))) (refuses badRef)
-    row w true e = ap readRow (row-first t (w - 64) (omega (arith, ltb-true (w - 64) n e)))
-    row w false e = refl
+read-first t n h = fun-ext (λ w. rows-alike (rowAt (take 16384 t)) (rowAt t) n w (λ i l. row-first t i (omega arith)))
 
--- whatever is asked of a table behind its test
 asked-first :
     {A : Type 0} (t : List ℕ) (n : ℕ) (f : (ℕ → Leaf Info) → Answer A) →
     unless (noTable (take 16384 t) n) badRow (f (read (take 16384 t) n)) ≡ unless (noTable t n) badRow (f (read t n))
-unfolding noTable
 asked-first t n f =
-    rw (table-first t n)
-    (past-test (noTable t n) badRow (λ e. ap f (read-first t n (ltb-false 1024 n (neither (ltb 1024 n) (ltb (length t) (16 * n)) e .0)))))
+    asked-alike (noTable (take 16384 t) n) (noTable t n) f (table-first t n)
+    (λ e. read-first t n (omega (arith, rows-there t n (sym (table-first t n) ∙ e), room-fits (length t) .0)))
 
 -- Questions
 
@@ -178,7 +162,7 @@ put-front room row k (w ∷ ws) t u r fits h =
     put-front room row (suc k) ws (set t (place room row k) w) u r (rw (length-set t (place room row k) w) fits) (omega arith)
     ∙ ap (putFrom room row (suc k) ws) (sym (set-append-left t u (place room row k) w (place-fits room row k (length t) r (omega arith) fits)))
 
-rows-front :
+pub rows-front :
     (room i : ℕ) (rs : List (List ℕ)) (t u : List ℕ) → Every (λ r. length r ≡ 16) rs → i + length rs ≤ room → 16 * room ≤ length t →
     putRows room i rs t ++ u ≡ putRows room i rs (t ++ u)
 unfolding putRows

@@ -1,28 +1,48 @@
--- Laws of a table's cells. The first two alone know where a cell stands.
+-- Laws of a table's cells. The first three alone know where a cell stands.
 use mathlib.Core.Path.{_≡_, refl, sym, ap, ap₂, _∙_}
+use mathlib.Core.Bool.{Bool, true, false}
 use mathlib.Core.List.{List, [], _∷_, _++_}
 use Prim.Native.Nat.{ℕ, zero, suc, _+_, _*_, _≤_, _<_}
-use native.Mathlib.Nat.{div-mul-le-self, add-zero, zero-add}
+use native.Mathlib.Nat.{div-mul-le-self, add-zero, zero-add, mul-le-mul-right, suc-mul}
 use native.Mathlib.Omega.{arith}
+use lib.Dec.{ltb}
 use lib.ListN.{length, getD, set, drop, length-set, drop-of-length-le}
 use lib.Seq.{getD-set-same, getD-set-other, drop-cons}
+use borrow.Author.Tests.{ltb-true, ltb-false}
 use Rattle.canon.specs.Table.{capacity, place, cell, cellsFrom, putFrom, putRows}
 use Rattle.canon.specs.Placement.{Every}
+use Rattle.canon.specs.Question.{noTable}
+
+-- a cell of a run stands before every later run
+run-before : (room row word later : ℕ) → row < room → word < later → word * room + row < later * room
+run-before room row word later h k = omega (arith, mul-le-mul-right room k, suc-mul word room)
 
 pub place-fits : (room row word n : ℕ) → row < room → word < 16 → 16 * room ≤ n → place room row word < n
 unfolding place
-place-fits room row word n h k l = omega arith
+place-fits room row word n h k l = omega (arith, run-before room row word 16 h k)
 
 pub place-apart :
-    (room row word row′ word′ : ℕ) → row < room → row′ < room → word < 16 → word′ < 16 →
+    (room row word row′ word′ : ℕ) → row < room → row′ < room →
     place room row word ≡ place room row′ word′ →
     (row ≡ row′) × (word ≡ word′)
 unfolding place
-place-apart room row word row′ word′ p q h k e = (omega arith, omega arith)
+place-apart room row word row′ word′ p q e = go (ltb word word′) (ltb word′ word) refl refl
+  where
+    go : (a b : Bool) → ltb word word′ ≡ a → ltb word′ word ≡ b → (row ≡ row′) × (word ≡ word′)
+    go true b f g = absurd (omega (arith, run-before room row word word′ p (ltb-true word word′ f)))
+    go false true f g = absurd (omega (arith, run-before room row′ word′ word q (ltb-true word′ word g)))
+    go false false f g =
+        let same : word ≡ word′ = omega (arith, ltb-false word word′ f, ltb-false word′ word g) in
+        (omega (arith, ap (λ (w : ℕ). w * room) same), same)
 
 pub room-fits : (n : ℕ) → (capacity n ≤ 1024) × (16 * capacity n ≤ n)
 unfolding capacity
 room-fits n = (omega arith, omega (arith, div-mul-le-self n 16))
+
+-- a table that is there has room for its rows
+pub rows-there : (t : List ℕ) (n : ℕ) → noTable t n ≡ false → n ≤ capacity (length t)
+unfolding noTable
+rows-there t n e = ltb-false (capacity (length t)) n e
 
 -- stores keep the length
 
@@ -92,7 +112,7 @@ module _ (room n : ℕ) (fits : 16 * room ≤ n) where
   stored row k [] t i p e h l = absurd (omega arith)
   stored row k (x ∷ ws) t zero p e h l =
       kept room row (suc k) ws (set t (place room row k) x) (place room row (k + 0))
-      (λ i q a. let b = place-apart room row (k + 0) row (suc k + i) p p (omega arith) (omega arith) a in omega (arith, b .1))
+      (λ i q a. let b = place-apart room row (k + 0) row (suc k + i) p p a in omega (arith, b .1))
       ∙ ap (λ (w : ℕ). getD (set t (place room row k) x) (place room row w) 0) (add-zero k)
       ∙ getD-set-same t (place room row k) x 0 (place-fits room row k (length t) p (omega arith) (omega arith))
   stored row k (x ∷ ws) t (suc i) p e h l =
@@ -108,7 +128,7 @@ module _ (room n : ℕ) (fits : 16 * room ≤ n) where
   row-cell i [] t j w full l e h k = absurd (omega arith)
   row-cell i (r ∷ rs) t zero w full l e h k =
       rows-kept room (suc i) rs (putFrom room i 0 r t) (place room (i + 0) w) (full .1)
-      (λ j v q u a. let b = place-apart room (i + 0) w (suc i + j) v (omega arith) (omega arith) k u a in omega (arith, b .0))
+      (λ j v q u a. let b = place-apart room (i + 0) w (suc i + j) v (omega arith) (omega arith) a in omega (arith, b .0))
       ∙ ap (λ (z : ℕ). getD (putFrom room i 0 r t) (place room z w) 0) (add-zero i)
       ∙ ap (λ (z : ℕ). getD (putFrom room i 0 r t) (place room i z) 0) (omega arith)
       ∙ stored i 0 r t w (omega arith) e (omega (arith, full .0)) (omega (arith, full .0))
@@ -116,7 +136,27 @@ module _ (room n : ℕ) (fits : 16 * room ≤ n) where
       ap (λ (z : ℕ). getD (putRows room (suc i) rs (putFrom room i 0 r t)) (place room z w) 0) (omega arith)
       ∙ row-cell (suc i) rs (putFrom room i 0 r t) j w (full .1) (omega arith) (length-putFrom room i 0 r t ∙ e) (omega arith) k
 
--- a row's cells as a list
+-- A row's cells as a list
+
+pub cells-at : (room : ℕ) (t : List ℕ) (row k n i : ℕ) → i < n → getD (cellsFrom room t row k n) i 0 ≡ cell room t row (k + i)
+unfolding cellsFrom
+cells-at room t row k zero i h = absurd (omega arith)
+cells-at room t row k (suc n) zero h = ap (cell room t row) (omega arith)
+cells-at room t row k (suc n) (suc i) h = cells-at room t row (suc k) n i (omega arith) ∙ ap (cell room t row) (omega arith)
+
+pub cell-of : (room : ℕ) (t : List ℕ) (row k : ℕ) → k < 16 → getD (cellsFrom room t row 0 16) k 0 ≡ cell room t row k
+cell-of room t row k h = cells-at room t row 0 16 k h ∙ ap (cell room t row) (zero-add k)
+
+-- rows whose cells agree are one row
+pub cells-same :
+    (room room′ : ℕ) (t t′ : List ℕ) (row row′ k n : ℕ) →
+    ((i : ℕ) → i < k + n → cell room t row i ≡ cell room′ t′ row′ i) →
+    cellsFrom room t row k n ≡ cellsFrom room′ t′ row′ k n
+unfolding cellsFrom
+cells-same room room′ t t′ row row′ k zero h = refl
+cells-same room room′ t t′ row row′ k (suc n) h =
+    ap₂ _∷_ (h k (omega arith)) (cells-same room room′ t t′ row row′ (suc k) n (λ i l. h i (omega arith)))
+
 cells-are :
     (room : ℕ) (t : List ℕ) (row k n : ℕ) (ws : List ℕ) → length ws ≡ n →
     ((w : ℕ) → w < n → cell room t row (k + w) ≡ getD ws w 0) →
@@ -143,3 +183,12 @@ row-at room n rs t j fits full l e h =
     every-at [] j full h = absurd (omega arith)
     every-at (r ∷ rs) zero full h = full .0
     every-at (r ∷ rs) (suc j) full h = every-at rs j (full .1) (omega arith)
+
+-- a row after those that were put is as it was
+pub rows-after :
+    (room : ℕ) (rs : List (List ℕ)) (t : List ℕ) (i : ℕ) → Every (λ r. length r ≡ 16) rs → i < room → length rs ≤ i →
+    cellsFrom room (putRows room 0 rs t) i 0 16 ≡ cellsFrom room t i 0 16
+unfolding cell
+rows-after room rs t i full h l =
+    cells-same room room (putRows room 0 rs t) t i i 0 16
+    (λ k q. rows-kept room 0 rs t (place room i k) full (λ j w p _ e. let b = place-apart room i k (0 + j) w h (omega arith) e in omega (arith, b .0)))

@@ -19,3 +19,4 @@ pub mod Built
 pub mod Questions
 pub mod Stopped
 pub mod Capped
+pub mod Columns

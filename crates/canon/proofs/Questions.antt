@@ -6,13 +6,13 @@ use mathlib.Core.Logic.{_↔_}
 use mathlib.Core.Bool.{Bool, true, false, cond}
 use mathlib.Core.List.{List, [], _∷_, _++_, map, map-append, Forall₂, Forall₂·nil as empty, Forall₂·cons as pair}
 use mathlib.Core.Option.{Option, none, some}
-use Prim.Native.Nat.{ℕ, suc, _*_, _-_, _≤_}
+use Prim.Native.Nat.{ℕ, suc, _-_, _≤_, _<_}
 use native.Mathlib.Decide.{decLe}
 use native.Mathlib.Omega.{arith}
 use lib.Dec.{leb, ltb}
 use lib.ListN.{length, take, drop, getElem?, length-map}
 use lib.Seq.{take-at}
-use borrow.Author.Tests.{ltb-false, le-ltb}
+use borrow.Author.Tests.{ltb-true, ltb-false, le-ltb}
 use Rattle.canon.specs.Answer.{Leaf, is, no as refuses, Answer, ok, refused, atPosition, then, unless, mapOption2, mapOption, tooLong, badRef, tooLarge, noRoom, badRow}
 use Rattle.canon.specs.Types.{Ty, Core, plain}
 use Rattle.canon.specs.Layout.{Memory, mem32, mem64, Layout, within, starts, lastEnd, recordSize, layout, largestNumber}
@@ -21,18 +21,40 @@ use Rattle.canon.specs.Reach.{Reach, noReach, joinReach, reach}
 use Rattle.canon.specs.Row.{Info, infoLayout, infoOf, rowAbi, rowInfo, rowOf, word, goodAbi, isGood}
 use Rattle.canon.specs.Table.{capacity, rowAt}
 use Rattle.canon.specs.Description.{reference, built, tableAfter}
-use Rattle.canon.specs.Question.{plainInfo, readRow, read, infos, tooMany, noTable, ask, askTwo, typeAnswer, layoutsIn, Placing, placed, placing, bufferAfter, offsetsAfter, reachAll}
+use Rattle.canon.specs.Question.{plainInfo, readRow, reading, read, infos, tooMany, noTable, ask, askTwo, typeAnswer, layoutsIn, Placing, placed, placing, bufferAfter, offsetsAfter, reachAll}
 use Rattle.canon.specs.Signature.{flatAll}
 use Rattle.canon.proofs.Tests.{impossible, both-true}
 use Rattle.canon.proofs.Tightest.{Aligned}
 use Rattle.canon.proofs.Alignments.{layout-aligned}
 use Rattle.canon.proofs.Wider.{_≼_, both-aligned, starts-wider, record-wider, layout-wider, starts-append}
 use Rattle.canon.proofs.Refusals.{Tightest, placed-fits, placed-large, placed-six, placed-is, placed-tightest}
-use Rattle.canon.proofs.Cells.{room-fits, length-putRows}
+use Rattle.canon.proofs.Cells.{length-putRows}
 use Rattle.canon.proofs.Rows.{flat-back}
 use Rattle.canon.proofs.Built.{typeInfo, built-sound, reads-built}
 use Rattle.canon.proofs.Rounding.{Alignment, abi-tested}
 use Rattle.canon.specs.Placement.{NoPlacement, NoneLater}
+
+-- Two tables
+
+-- two answers behind one test agree where they agree when it is passed
+pub past-test : {A : Type 0} (b : Bool) (x : ℕ) {u v : Answer A} → (b ≡ false → u ≡ v) → unless b x u ≡ unless b x v
+unfolding unless
+past-test true x h = refl
+past-test false x h = h refl
+
+-- a reference gives the same in two tables whose first n rows, f and g, are the same
+pub rows-alike : (f g : ℕ → List ℕ) (n w : ℕ) → ((i : ℕ) → i < n → f i ≡ g i) → reading f n w ≡ reading g n w
+rows-alike f g n w h = ap (λ (row : Leaf Info). cond (leb 64 w) row (plainInfo (getElem? plain w))) (go (ltb (w - 64) n) refl)
+  where
+    go : (b : Bool) → ltb (w - 64) n ≡ b → cond b (readRow (f (w - 64))) (refuses badRef) ≡ cond b (readRow (g (w - 64))) (refuses badRef)
+    go true e = ap readRow (h (w - 64) (ltb-true (w - 64) n e))
+    go false e = refl
+
+-- whatever is asked behind the test of a table is the same of two, where the tests agree and, once passed, what is read
+pub asked-alike :
+    {A : Type 0} (b c : Bool) {look look′ : ℕ → Leaf Info} (f : (ℕ → Leaf Info) → Answer A) → b ≡ c → (b ≡ false → look ≡ look′) →
+    unless b badRow (f look) ≡ unless c badRow (f look′)
+asked-alike b c {look′ = look′} f e h = past-test b badRow (λ p. ap f (h p)) ∙ ap (λ (d : Bool). unless d badRow (f look′)) e
 
 -- What is read is aligned
 
@@ -204,13 +226,8 @@ offsets-begin m t n ws vs room room′ p q e f =
 pub table-there : (ws t : List ℕ) (n : ℕ) → n ≤ length (built ws t .types) → noTable (tableAfter ws t) n ≡ false
 unfolding noTable tableAfter
 table-there ws t n le =
-    let s = built-sound ws t in
-    let f = room-fits (length t) in
-    rw (
-      length-putRows (capacity (length t)) 0 (map rowOf (built ws t .types)) t,
-      le-ltb 1024 n (omega (arith, s .fits, f .0)),
-      le-ltb (length t) (16 * n) (omega (arith, s .fits, f .1)),
-    )
+    rw (length-putRows (capacity (length t)) 0 (map rowOf (built ws t .types)) t)
+    (le-ltb (capacity (length t)) n (omega (arith, built-sound ws t .fits)))
 
 -- the types that a question's references name
 unfoldable pub named : List Ty → List ℕ → Option (List Ty)

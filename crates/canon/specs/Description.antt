@@ -157,6 +157,6 @@ built ws t = build (capacity (length t)) ws
 unfoldable pub buildAnswer : List ℕ → List ℕ → Answer ℕ
 buildAnswer ws t = answered (length (built ws t .types)) (built ws t .stopped)
 
--- "earlier rows are written, every other word keeps its value"
+-- "earlier entries of each run are written, every other word keeps its value"
 unfoldable pub tableAfter : List ℕ → List ℕ → List ℕ
 tableAfter ws t = putRows (capacity (length t)) 0 (map rowOf (built ws t .types)) t

@@ -11,3 +11,4 @@ pub mod Table
 pub mod Description
 pub mod Question
 pub mod Signature
+pub mod Before

@@ -2,14 +2,14 @@
 use mathlib.Core.Bool.{Bool, false, cond, _||_}
 use mathlib.Core.List.{List, [], _∷_, _++_, map}
 use mathlib.Core.Option.{Option, none, some}
-use Prim.Native.Nat.{ℕ, suc, _+_, _-_, _*_}
+use Prim.Native.Nat.{ℕ, suc, _-_}
 use lib.Dec.{leb, ltb}
 use lib.ListN.{length, drop, getElem?}
 use Rattle.canon.specs.Types.{Ty, plain}
 use Rattle.canon.specs.Layout.{Memory, Layout, roundUp, endAfter, starts, recordLayout, recordSize, largestNumber}
 use Rattle.canon.specs.Reach.{Reach, noReach, joinReach}
 use Rattle.canon.specs.Row.{Info, infoLayout, infoOf, rowInfo, isGood}
-use Rattle.canon.specs.Table.{rowAt}
+use Rattle.canon.specs.Table.{capacity, rowAt}
 use Rattle.canon.specs.Description.{mostWords}
 use Rattle.canon.specs.Answer.{Leaf, is, no, Answer, ok, refused, atPosition, then, unless, tooLong, badRef, badCount, tooLarge, noRoom, badRow}
 
@@ -22,9 +22,13 @@ plainInfo (some t) = is (infoOf t)
 unfoldable pub readRow : List ℕ → Leaf Info
 readRow r = cond (isGood r) (is (rowInfo r)) (no badRow)
 
--- one reference to a table t of n rows: "BadRef before BadRow"
+-- what one reference gives where the row j is row j, of n: "BadRef before BadRow"
+abbrev pub reading : (ℕ → List ℕ) → ℕ → ℕ → Leaf Info
+reading row n w = cond (leb 64 w) (cond (ltb (w - 64) n) (readRow (row (w - 64))) (no badRef)) (plainInfo (getElem? plain w))
+
+-- what it gives in a table t of n rows
 unfoldable pub read : List ℕ → ℕ → ℕ → Leaf Info
-read t n w = cond (leb 64 w) (cond (ltb (w - 64) n) (readRow (rowAt t (w - 64))) (no badRef)) (plainInfo (getElem? plain w))
+read t n w = reading (rowAt t) n w
 
 -- "each reference in order", the first at position p; look is what one reference gives
 unfoldable pub infos : (ℕ → Leaf Info) → ℕ → List ℕ → Answer (List Info)
@@ -37,25 +41,33 @@ infos look p (w ∷ ws) = then (atPosition p (look w)) (λ i. then (infos look (
 abbrev pub tooMany : List ℕ → Bool
 tooMany ws = ltb mostWords (length ws)
 
--- refusal 8: "n above 1,024, or 16n words not there"
+-- refusal 8: "n above the capacity"
 unfoldable pub noTable : List ℕ → ℕ → Bool
-noTable t n = ltb 1024 n || ltb (length t) (16 * n)
+noTable t n = ltb (capacity (length t)) n
 
--- a question on one list: "TooLong, n, maximum, NoRoom, then each reference"
-unfoldable pub ask : {A : Type 0} → List ℕ → ℕ → Bool → Bool → List ℕ → (List Info → Answer A) → Answer A
-ask t n badMaximum short ws k =
+-- a question on one list: "TooLong, n, maximum, NoRoom, then each reference"; missing is whether n is refused
+abbrev pub asking : {A : Type 0} → Bool → (ℕ → Leaf Info) → Bool → Bool → List ℕ → (List Info → Answer A) → Answer A
+asking missing look badMaximum short ws k =
     unless (tooMany ws) tooLong
-    (unless (noTable t n) badRow
+    (unless missing badRow
     (unless badMaximum badCount
     (unless short noRoom
-    (then (infos (read t n) 0 ws) k))))
+    (then (infos look 0 ws) k))))
+
+-- put to a table t of n rows
+unfoldable pub ask : {A : Type 0} → List ℕ → ℕ → Bool → Bool → List ℕ → (List Info → Answer A) → Answer A
+ask t n badMaximum short ws k = asking (noTable t n) (read t n) badMaximum short ws k
 
 -- "Two lists are tested in the order named, TooLong of both first, and positions count on from one into the other"
-unfoldable pub askTwo : {A : Type 0} → List ℕ → ℕ → List ℕ → List ℕ → (List Info → List Info → Answer A) → Answer A
-askTwo t n vs ws k =
+abbrev pub askingTwo : {A : Type 0} → Bool → (ℕ → Leaf Info) → List ℕ → List ℕ → (List Info → List Info → Answer A) → Answer A
+askingTwo missing look vs ws k =
     unless (tooMany vs || tooMany ws) tooLong
-    (unless (noTable t n) badRow
-    (then (infos (read t n) 0 vs) (λ is′. then (infos (read t n) (length vs) ws) (λ js. k is′ js))))
+    (unless missing badRow
+    (then (infos look 0 vs) (λ is′. then (infos look (length vs) ws) (λ js. k is′ js))))
+
+-- put to a table t of n rows
+unfoldable pub askTwo : {A : Type 0} → List ℕ → ℕ → List ℕ → List ℕ → (List Info → List Info → Answer A) → Answer A
+askTwo t n vs ws k = askingTwo (noTable t n) (read t n) vs ws k
 
 -- "Type: the five numbers of `CanonicalAbiInfo`, flat words and borrow of one reference"
 unfoldable pub typeAnswer : List ℕ → ℕ → ℕ → Answer Info

@@ -1,15 +1,17 @@
--- A table in a lent buffer, by its cells: `place` alone says where a word of a row stands.
+-- A table in a lent buffer, by its cells: `place` says where a word of a row stands, and the row i is the entry i of every run. `column` is a
+-- run as the paper has it; a law ties the two.
 use mathlib.Core.List.{List, [], _∷_}
 use Prim.Native.Nat.{ℕ, zero, suc, _+_, _*_, _/_, min}
-use lib.ListN.{length, getD, set}
+use lib.ListN.{length, getD, set, take, drop}
 
--- 01: "at most 1,024 rows of 16 words, fewer if the lent buffer is shorter"
+-- "at most 1,024 rows of 16 words, fewer if the lent buffer is shorter", "the number of whole rows, at most 1,024"
 unfoldable pub capacity : ℕ → ℕ
 capacity n = min 1024 (n / 16)
 
--- the place of a word of a row, in a table with room for so many rows
+-- the place of a word of a row, in a table with room for so many rows: "sixteen runs, one per word of the row, each as long as the
+-- table's capacity"
 unfoldable pub place : ℕ → ℕ → ℕ → ℕ
-place room row word = 16 * row + word
+place room row word = word * room + row
 
 unfoldable pub cell : ℕ → List ℕ → ℕ → ℕ → ℕ
 cell room t row word = getD t (place room row word) 0
@@ -31,3 +33,7 @@ putFrom room row k (w ∷ ws) t = putFrom room row (suc k) ws (set t (place room
 unfoldable pub putRows : ℕ → ℕ → List (List ℕ) → List ℕ → List ℕ
 putRows room i [] t = t
 putRows room i (r ∷ rs) t = putRows room (suc i) rs (putFrom room i 0 r t)
+
+-- the run of the word k: "one per word of the row, each as long as the table's capacity"
+unfoldable pub column : List ℕ → ℕ → List ℕ
+column t k = take (capacity (length t)) (drop (k * capacity (length t)) t)

@@ -1,23 +1,20 @@
 -- What is read of the picked rows by the new names is what is read of the lent table by the references.
 use mathlib.Core.Path.{_≡_, refl, sym, ap, _∙_}
-use mathlib.Core.Bool.{false, _||_}
+use mathlib.Core.Bool.{false}
 use mathlib.Core.List.{List}
-use Prim.Native.Nat.{ℕ, _+_, _-_, _*_, _/_, _≤_, _<_, min}
+use Prim.Native.Nat.{ℕ, _+_, _-_, _≤_, _<_}
 use native.Mathlib.Decide.{ℕ-discrete, decLe}
-use native.Mathlib.Nat.{div-mul-le-self}
 use native.Mathlib.Omega.{arith}
 use lib.Dec.{ltb}
 use lib.ListN.{length, getD, getElem?, set, take}
 use lib.Seq.{getD-set-same, getD-set-other, getD-take, length-take-le}
-use borrow.Author.Tests.{lt-ltb, le-ltb, lt-leb, le-leb, ltb-false}
+use borrow.Author.Tests.{lt-ltb, le-ltb, lt-leb, le-leb}
 use Rattle.canon.specs.Answer.{no as refuses, badRef}
 use Rattle.canon.specs.Types.{plain}
 use Rattle.canon.specs.Table.{capacity, rowAt}
 use Rattle.canon.specs.Question.{plainInfo, readRow, read, noTable}
-use Rattle.canon.proofs.Tests.{neither}
-use Rattle.canon.proofs.Cells.{kept}
 use Rattle.table.specs.Rows.{rowIn, tableWith}
-use Rattle.table.proofs.Reading.{row-there, length-cells}
+use Rattle.table.proofs.Reading.{row-is, length-cells}
 use Rattle.table.proofs.Putting.{length-with, row-put, row-kept}
 use Rattle.host.specs.Picked.{readPicked, Keeps, Names}
 
@@ -35,25 +32,9 @@ read-undefined : (t : List ℕ) (n w : ℕ) → 64 ≤ w → n ≤ w - 64 → re
 unfolding read
 read-undefined t n w h l = rw (le-leb 64 w h, le-ltb (w - 64) n l)
 
--- a table that is there has its rows
-rows-there : (t : List ℕ) (n : ℕ) → noTable t n ≡ false → n ≤ capacity (length t)
-unfolding noTable capacity
-rows-there t n e =
-    let both = neither (ltb 1024 n) (ltb (length t) (16 * n)) e in
-    omega (arith, ltb-false 1024 n (both .0), ltb-false (length t) (16 * n) (both .1))
-
 pub no-rows-is : (words n : ℕ) (t : List ℕ) → length t ≡ words → ltb (capacity words) n ≡ noTable t n
-unfolding noTable capacity
-no-rows-is words n t e =
-    rw e
-    (elim (decLe n (min 1024 (words / 16))) [
-      | yes h ↦ rw (le-ltb (min 1024 (words / 16)) n h, le-ltb 1024 n (omega arith), le-ltb words (16 * n) (omega (arith, div-mul-le-self words 16)))
-      | no h ↦ more (decLe n 1024) h
-    ])
-  where
-    more : Dec (n ≤ 1024) → (n ≤ min 1024 (words / 16) → ⊥) → ltb (min 1024 (words / 16)) n ≡ ltb 1024 n || ltb words (16 * n)
-    more (yes l) h = rw (lt-ltb (min 1024 (words / 16)) n (omega arith), le-ltb 1024 n l, lt-ltb words (16 * n) (omega arith))
-    more (no l) h = rw (lt-ltb (min 1024 (words / 16)) n (omega arith), lt-ltb 1024 n (omega arith))
+unfolding noTable
+no-rows-is words n t e = rw e
 
 -- Picking
 
@@ -73,11 +54,8 @@ module _ (t : List ℕ) (n w : ℕ) (p : List ℕ) (slot : ℕ) where
   -- one to a definition has its row in the slot, and the rows before it are kept
 
   module _ (there : noTable t n ≡ false) (room : slot < capacity (length p)) (h : 64 ≤ w) (l : w - 64 < n) where
-    row-of : rowIn t (w - 64) ≡ rowAt t (w - 64)
-    row-of = row-there t (capacity (length t)) (w - 64) refl (omega (arith, rows-there t n there))
-
     sixteen : length (rowIn t (w - 64)) ≡ 16
-    sixteen = rw row-of (length-cells (capacity (length t)) t (w - 64) 0 16)
+    sixteen = rw (row-is t n (w - 64) there l) (length-cells (capacity (length t)) t (w - 64) 0 16)
 
     abbrev after : List ℕ
     after = tableWith p slot (rowIn t (w - 64))
@@ -86,7 +64,7 @@ module _ (t : List ℕ) (n w : ℕ) (p : List ℕ) (slot : ℕ) where
     row-picked =
         read-defined after (capacity (length after)) (64 + slot) (omega arith) (rw (length-with p slot (rowIn t (w - 64))) (omega arith))
         ∙ ap (λ (j : ℕ). readRow (rowAt after j)) (omega arith)
-        ∙ ap readRow (row-put p slot (rowIn t (w - 64)) sixteen room t (w - 64) row-of)
+        ∙ ap readRow (row-put p slot (rowIn t (w - 64)) sixteen room t (w - 64) (row-is t n (w - 64) there l))
         ∙ sym (read-defined t n w h l)
 
     pub others-kept : Keeps slot p after

@@ -102,7 +102,7 @@ fn build_short(words: &[u8], table: &mut [u8]) -> u64
 }
 
 // Refuses TooLong for the bytes, then Truncated for a length that is not a multiple of four, then as over words.
-// No row stands beyond the byte 65,536 of a table: a longer one is cut as in `ask_bytes`.
+// No cell stands beyond the byte 65,536 of a table: a longer one is cut as in `ask_bytes`.
 #[no_mangle]
 pub extern "C" fn lampughjata_build_bytes(words: &[u8], table: &mut [u8]) -> u64
     ensures { λ r. ⌜ r ≡ answerNumber itself (buildBytes (now (words .entry)) (now (table .entry))) ⌝ }

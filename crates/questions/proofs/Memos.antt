@@ -9,14 +9,15 @@ use lib.Arith.{digits-div, digits-mod}
 use lib.Dec.{leb, ltb, eqb}
 use lib.ListN.{length, getD, getElem?, take, drop, set, replicate}
 use lib.Seq.{getD-set-same, getD-set-other, drop-cons, set-at}
-use borrow.Author.Tests.{ltb-true, ltb-false, leb-false, eqb-true, eqb-false}
+use borrow.Author.Tests.{ltb-true, leb-false, eqb-true, eqb-false}
 use Rattle.canon.specs.Answer.{Leaf, is, no, Answer, ok, refused, atPosition, then, andThen, unless, badRef, badRow}
 use Rattle.canon.specs.Layout.{Memory, Layout}
 use Rattle.canon.specs.Row.{Info, infoLayout}
 use Rattle.canon.specs.Types.{plain}
 use Rattle.canon.specs.Table.{rowAt}
 use Rattle.canon.specs.Question.{plainInfo, readRow, read, infos, noTable, typeAnswer, sizeAlignAnswer, layoutsIn}
-use Rattle.canon.proofs.Tests.{impossible, neither}
+use Rattle.canon.proofs.Tests.{impossible}
+use Rattle.canon.proofs.Cells.{room-fits, rows-there}
 use Rattle.canon.proofs.Questions.{read-aligned}
 use Rattle.canon.proofs.Rounding.{Alignment, alignment-pos}
 use Rattle.canon.proofs.Tightest.{Aligned}
@@ -60,11 +61,11 @@ at-no (no y) x p e = let q : x ≡ y = cc in rw q
 
 -- a reference that gives something is below 1088: 64, and a row for each of 1,024
 read-below : (t : List ℕ) (n w : ℕ) (i : Info) → noTable t n ≡ false → read t n w ≡ is i → w < 1088
-unfolding read noTable
+unfolding read
 read-below t n w i e h = go (leb 64 w) (ltb (w - 64) n) refl refl h
   where
     few : n ≤ 1024
-    few = ltb-false 1024 n (neither (ltb 1024 n) _ e .0)
+    few = omega (arith, rows-there t n e, room-fits (length t) .0)
 
     go :
         (b c : Bool) → leb 64 w ≡ b → ltb (w - 64) n ≡ c →

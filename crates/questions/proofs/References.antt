@@ -1,34 +1,20 @@
--- One reference: its row lies within the table, and what a question takes of it is a part of what canon's `read` gives. A loop over
+-- One reference: what a question takes of it is a part of what canon's `read` gives. A loop over
 -- references: these infos have been read, and the rest comes behind them. A law for each turn, whatever is made of the infos.
 use mathlib.Core.Path.{_≡_, refl, sym, ap, _∙_}
-use mathlib.Core.Bool.{false}
 use mathlib.Core.List.{List, [], _∷_, _++_, append-assoc, append-nil}
-use Prim.Native.Nat.{ℕ, _+_, _*_, _≤_, _<_}
+use Prim.Native.Nat.{ℕ, _+_, _≤_, _<_}
 use native.Mathlib.Numerals.{add-one}
-use native.Mathlib.Omega.{arith}
-use lib.Dec.{ltb}
 use lib.ListN.{length, getD, getElem?, drop, drop-of-length-le}
 use lib.Seq.{drop-cons}
-use borrow.Author.Tests.{ltb-false, lt-ltb, lt-leb}
+use borrow.Author.Tests.{lt-leb}
 use Rattle.canon.specs.Answer.{Leaf, is, no, Answer, ok, refused, atPosition, then, andThen}
 use Rattle.canon.specs.Row.{Info}
-use Rattle.canon.specs.Table.{capacity, rowAt}
 use Rattle.canon.specs.Types.{plain}
-use Rattle.canon.specs.Question.{plainInfo, read, infos, noTable}
-use Rattle.canon.proofs.Tests.{impossible, neither}
-use Rattle.table.specs.Rows.{rowIn}
+use Rattle.canon.specs.Question.{plainInfo, read, infos}
+use Rattle.canon.proofs.Tests.{impossible}
 use Rattle.questions.specs.Steps.{part}
 
 -- One reference
-
--- a table that is there has room for its rows
-pub row-is : (t : List ℕ) (n j : ℕ) → noTable t n ≡ false → j < n → rowIn t j ≡ rowAt t j
-unfolding noTable rowIn capacity
-row-is t n j e h =
-    let b = neither (ltb 1024 n) (ltb (length t) (16 * n)) e in
-    let l = ltb-false 1024 n (b .0) in
-    let m = ltb-false (length t) (16 * n) (b .1) in
-    rw (lt-ltb j (capacity (length t)) (omega arith))
 
 -- a word below 64 names no row
 pub read-plain : (t : List ℕ) (n w : ℕ) → w < 64 → read t n w ≡ plainInfo (getElem? plain w)

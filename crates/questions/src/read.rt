@@ -7,8 +7,7 @@ ghost use Rattle.canon.specs.Question.{read, tooMany, noTable};
 ghost use Rattle.questions.specs.Means.{namedMeans, namedGood};
 use table::DefinitionIndex;
 use table::FIRST_DEFINITION;
-use table::MOST_ROWS;
-use table::ROW_WORDS;
+use table::capacity;
 use table::is_good_row;
 use types::Refusal;
 
@@ -30,10 +29,7 @@ pub fn too_many(references: &[u32]) -> bool
 pub fn no_table(table: &[u32], n: u32) -> bool
     ensures { λ r. ⌜ r ≡ noTable (now (table .entry)) n ⌝ }
 {
-    if n as usize > MOST_ROWS {
-        return true;
-    }
-    table.len() < ROW_WORDS * n as usize
+    capacity(table.len()) < n as usize
 }
 
 // The row that a reference names, if it is there and of good form.

@@ -13,6 +13,7 @@ use libc::STDIN_FILENO;
 use libc::STDOUT_FILENO;
 use table::ROW_WORDS;
 use table::TABLE_WORDS;
+use table::capacity;
 use words::words_of;
 
 enum Compared {
@@ -31,13 +32,13 @@ fn word(words: &[u32], at: usize) -> u32 {
     if at < words.len() { words[at] } else { 0 }
 }
 
-fn is_front(rows: &[u32], table: &[u32]) -> bool {
-    if table.len() < rows.len() {
-        return false;
-    }
+// The list has rows one after another, the table a run for each word of a row. There are as many rows as were built, so each has its cells.
+fn holds(table: &[u32], rows: &[u32]) -> bool {
+    let room = capacity(table.len());
     let mut k: usize = 0;
     while k < rows.len() {
-        if rows[k] != table[k] {
+        let at = k % ROW_WORDS * room + k / ROW_WORDS;
+        if rows[k] != word(table, at) {
             return false;
         }
         k += 1;
@@ -70,7 +71,7 @@ fn is_built(entry: &[u32]) -> bool {
     match build(&entry[1..end], &mut table) {
         Built::Rows(rows) => {
             if rows as usize * ROW_WORDS == entry.len() - first {
-                is_front(&entry[first..], &table)
+                holds(&table, &entry[first..])
             } else {
                 false
             }

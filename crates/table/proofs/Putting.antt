@@ -1,16 +1,16 @@
 -- A table after a row was put into it: its length, the row and the others.
-use mathlib.Core.Path.{_≡_, refl, sym, ap, ap₂, _∙_}
+use mathlib.Core.Path.{_≡_, refl, sym, ap, _∙_}
 use mathlib.Core.Bool.{Bool, true, false, cond}
 use mathlib.Core.List.{List, [], _∷_}
-use Prim.Native.Nat.{ℕ, zero, suc, _+_, _<_}
+use Prim.Native.Nat.{ℕ, _+_, _<_}
 use native.Mathlib.Nat.{add-zero}
 use native.Mathlib.Omega.{arith}
 use lib.Dec.{ltb}
 use lib.ListN.{length, getD}
-use Rattle.canon.specs.Table.{capacity, place, cell, cellsFrom, rowAt, putFrom, putRows}
-use Rattle.canon.proofs.Cells.{place-apart, room-fits, length-putFrom, kept, row-cell}
+use Rattle.canon.specs.Table.{capacity, place, cell, rowAt, putFrom, putRows}
+use Rattle.canon.proofs.Cells.{place-apart, room-fits, length-putFrom, kept, row-cell, cell-of, cells-same}
 use Rattle.table.specs.Rows.{tableWith}
-use Rattle.table.proofs.Reading.{put-there, cell-of}
+use Rattle.table.proofs.Reading.{put-there}
 
 -- a row of no words changes nothing
 pub put-nothing : (t : List ℕ) (j : ℕ) → tableWith t j [] ≡ t
@@ -28,16 +28,6 @@ length-with t j ws = go (ltb j (capacity (length t)))
     go : (b : Bool) → length (cond b (putFrom (capacity (length t)) j 0 ws t) t) ≡ length t
     go true = length-putFrom (capacity (length t)) j 0 ws t
     go false = refl
-
--- rows whose cells agree are one row
-cells-same :
-    (room room′ : ℕ) (t t′ : List ℕ) (row row′ k n : ℕ) →
-    ((i : ℕ) → i < k + n → cell room t row i ≡ cell room′ t′ row′ i) →
-    cellsFrom room t row k n ≡ cellsFrom room′ t′ row′ k n
-unfolding cellsFrom
-cells-same room room′ t t′ row row′ k zero h = refl
-cells-same room room′ t t′ row row′ k (suc n) h =
-    ap₂ _∷_ (h k (omega arith)) (cells-same room room′ t t′ row row′ (suc k) n (λ i l. h i (omega arith)))
 
 module _ (t : List ℕ) (j : ℕ) (ws : List ℕ) (full : length ws ≡ 16) (h : j < capacity (length t)) where
   abbrev room : ℕ
@@ -57,7 +47,7 @@ module _ (t : List ℕ) (j : ℕ) (ws : List ℕ) (full : length ws ≡ 16) (h :
   unfolding cell
   kept-cell i k p apart l =
       rw (put-there t room j refl ws h)
-      (kept room j 0 ws t (place room i k) (λ x q e. apart (place-apart room i k j (0 + x) p h l (omega arith) e .0)))
+      (kept room j 0 ws t (place room i k) (λ x q e. apart (place-apart room i k j (0 + x) p h e .0)))
 
   pub row-put : (u : List ℕ) (r : ℕ) → ws ≡ rowAt u r → rowAt (tableWith t j ws) j ≡ rowAt u r
   row-put u r e =

@@ -1,31 +1,23 @@
 -- A row that the table has is of its cells; one that it has not is of no words, and nothing is put there. The tests of a row, one after
 -- another, are its good form.
-use mathlib.Core.Path.{_≡_, refl, ap, _∙_}
+use mathlib.Core.Path.{_≡_, refl, ap}
 use mathlib.Core.Bool.{Bool, true, false, _&&_, and-assoc}
 use mathlib.Core.List.{List, []}
 use mathlib.Core.Option.{Option}
-use Prim.Native.Nat.{ℕ, zero, suc, _+_, _^_, _≤_, _<_}
-use native.Mathlib.Nat.{zero-add}
+use Prim.Native.Nat.{ℕ, zero, suc, _^_, _≤_, _<_}
 use native.Mathlib.Omega.{arith}
 use lib.Arith.{digits-div, digits-mod}
 use lib.Dec.{leb}
-use lib.ListN.{length, getD}
+use lib.ListN.{length}
 use borrow.Author.Tests.{lt-ltb, le-ltb, ne-eqb}
 use Rattle.canon.specs.Layout.{Both, Layout}
 use Rattle.canon.specs.Reach.{goodReach}
 use Rattle.canon.specs.Row.{word, rowAbi, goodLayout, goodCount, unusedZero, goodAbi, isDiscriminant, isGood}
-use Rattle.canon.specs.Table.{capacity, cell, cellsFrom, putFrom}
+use Rattle.canon.specs.Table.{capacity, cell, cellsFrom, rowAt, putFrom}
+use Rattle.canon.specs.Question.{noTable}
+use Rattle.canon.proofs.Cells.{rows-there, cell-of}
 use Rattle.flat_types.specs.Lists.{halves, whole}
 use Rattle.table.specs.Rows.{rowIn, tableWith, rowFlats}
-
-pub cells-at : (room : ℕ) (t : List ℕ) (row k n i : ℕ) → i < n → getD (cellsFrom room t row k n) i 0 ≡ cell room t row (k + i)
-unfolding cellsFrom
-cells-at room t row k zero i h = absurd (omega arith)
-cells-at room t row k (suc n) zero h = ap (cell room t row) (omega arith)
-cells-at room t row k (suc n) (suc i) h = cells-at room t row (suc k) n i (omega arith) ∙ ap (cell room t row) (omega arith)
-
-pub cell-of : (room : ℕ) (t : List ℕ) (row k : ℕ) → k < 16 → getD (cellsFrom room t row 0 16) k 0 ≡ cell room t row k
-cell-of room t row k h = cells-at room t row 0 16 k h ∙ ap (cell room t row) (zero-add k)
 
 pub length-cells : (room : ℕ) (t : List ℕ) (row k n : ℕ) → length (cellsFrom room t row k n) ≡ n
 unfolding cellsFrom
@@ -55,6 +47,10 @@ module _ (t : List ℕ) (room j : ℕ) (e : room ≡ capacity (length t)) where
   pub put-missing : (ws : List ℕ) → room ≤ j → tableWith t j ws ≡ t
   unfolding tableWith
   put-missing ws h = rw (← e, le-ltb j room h)
+
+-- a row of a table that is there is of its cells
+pub row-is : (t : List ℕ) (n j : ℕ) → noTable t n ≡ false → j < n → rowIn t j ≡ rowAt t j
+row-is t n j e h = row-there t (capacity (length t)) j refl (omega (arith, rows-there t n e))
 
 -- The good form, as the tests go
 

@@ -20,12 +20,12 @@ pub fn capacity(words: usize) -> usize
     if rows < MOST_ROWS { rows } else { MOST_ROWS }
 }
 
-// Rows lie one after another, so that `room` plays no part; callers give it, so that this function alone knows.
+// The table is sixteen runs, one for each word of a row, and each as long as the table has room for rows.
 pub(crate) fn place(room: usize, row: usize, word: usize) -> usize
     requires { ⌜ (row < room) × (word < 16) × (room ≤ 1024) ⌝ }
     ensures { λ r. ⌜ r ≡ place room row word ⌝ }
 {
-    ROW_WORDS * row + word
+    word * room + row
 }
 
 pub(crate) fn cell(table: &[u32], room: usize, row: usize, word: usize) -> u32

@@ -1,4 +1,5 @@
-// A table in a lent buffer has a row of sixteen words for each definition; a reference without a definition stands for a type of its own.
+// A table in a lent buffer has a row of sixteen words for each definition, stored by columns; a reference without a definition stands for a
+// type of its own.
 mod cells;
 mod from_bytes;
 mod info;

@@ -2,7 +2,7 @@
 //! themselves, to show that each is caught.
 use crate::compare::GUARD;
 use crate::encode;
-use crate::model::{BY_MEMORY, MOST_WORDS, Row};
+use crate::model::{BY_MEMORY, MOST_WORDS, ROW, Row, capacity};
 use crate::port::{Answered, Call, Cell, Function};
 
 /// What is wrong on purpose.
@@ -28,6 +28,9 @@ pub enum Fault {
     ByteTail,
     /// A table of more than 16,384 words is refused over bytes, as if its rows were not there.
     LongTable,
+    /// A type question's table is lent with one row less, though its rows still fit: another table, since its
+    /// runs are shorter.
+    CutTable,
     /// The last byte of a buffer of more than 16,384 words is changed over bytes.
     LongBuffer,
     /// The seventeenth reference of a list is lost over bytes.
@@ -52,7 +55,7 @@ pub enum Fault {
     OriginalList,
 }
 
-pub const FAULTS: [Fault; 21] = [
+pub const FAULTS: [Fault; 22] = [
     Fault::OffsetOneOff,
     Fault::PositionOneOff,
     Fault::TableWord,
@@ -63,6 +66,7 @@ pub const FAULTS: [Fault; 21] = [
     Fault::Saturates,
     Fault::ByteTail,
     Fault::LongTable,
+    Fault::CutTable,
     Fault::LongBuffer,
     Fault::ShortList,
     Fault::NoneAs256,
@@ -92,6 +96,13 @@ impl Fault {
                 let list = &mut call.slices[1];
                 if list.len() / 4 == 17 {
                     *list = &list[..64];
+                }
+            }
+            (Some(Fault::CutTable), Function::Type) => {
+                let table = &mut call.slices[0];
+                let left = table.len().saturating_sub(4 * ROW);
+                if numbers[0] as usize <= capacity(left / 4) {
+                    *table = &table[..left];
                 }
             }
             _ => {}

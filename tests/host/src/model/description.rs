@@ -6,8 +6,8 @@ use super::{Answer, MOST_WORDS, Refused, number};
 
 const NO_PAYLOAD: u32 = 4_294_967_295;
 
-/// "It answers the count, or the number with the definition's index (0 for TooLong); earlier rows are
-/// written, every other word keeps its value."
+/// "It answers the count, or the number with the definition's index (0 for TooLong)"; since order 11 "earlier
+/// entries of each run are written, every other word keeps its value."
 pub fn build(words: &[u32], table: &mut [u32]) -> Answer<u64> {
     if words.len() > MOST_WORDS {
         return Err(Refused {

@@ -128,7 +128,7 @@ impl Table<'_> {
         if lists.iter().any(|list| list.len() > MOST_WORDS) {
             return refuse(number::TOO_LONG);
         }
-        // "n above 1,024, or 16n words not there".
+        // "n above the capacity".
         if self.n as usize > capacity(self.words.len()) {
             return refuse(number::BAD_ROW);
         }

@@ -1,10 +1,10 @@
 //! Tables, lists and buffers longer than a call over bytes looks at, which is 16,384 words of a table or a
 //! buffer and 16,385 references: it must answer as if it had looked at all. Each call is made over bytes
 //! too.
-use super::questions;
+use super::{questions, tables};
 use crate::compare::{Run, Subject};
 use crate::generate;
-use crate::model::{MOST_ROWS, MOST_WORDS, ROW, Row, table_of};
+use crate::model::{self, MOST_ROWS, MOST_WORDS, ROW, Row, table_of};
 
 /// Lengths in words around the limit and well beyond it.
 const LENGTHS: [usize; 8] = [
@@ -20,7 +20,8 @@ const LENGTHS: [usize; 8] = [
 
 pub fn run(run: &mut Run) {
     let usual = std::mem::replace(&mut run.bytes_once_in, 1);
-    tables(run);
+    forged_tables(run);
+    built_tables(run);
     lists(run);
     buffers(run);
     builds(run);
@@ -28,7 +29,7 @@ pub fn run(run: &mut Run) {
 }
 
 /// Each table with every number of rows that could be taken for good.
-fn tables(run: &mut Run) {
+fn forged_tables(run: &mut Run) {
     let rows: Vec<Row> = (0..LENGTHS[7].div_ceil(ROW))
         .map(|_| generate::row(&mut run.random))
         .collect();
@@ -46,6 +47,27 @@ fn tables(run: &mut Run) {
                 questions::whole_type(run, &mut subject, reference);
                 questions::lists(run, &mut subject, &[2, reference], &[last]);
             }
+        }
+    }
+}
+
+/// A built table of 1,024 rows lent with each length: from 16,384 words on every row stands where it stood.
+fn built_tables(run: &mut Run) {
+    let words: Vec<u32> = (0..MOST_ROWS as u32)
+        .flat_map(|labels| [6, labels % 513])
+        .collect();
+    let Subject { table, n, .. } = run.description(&words).subject;
+    for length in LENGTHS {
+        let n = n.min(model::capacity(length) as u32);
+        let mut subject = tables::with_length(run, &table, length, n);
+        let row_same = |row| model::row(&subject.table, row) == model::row(&table, row);
+        let same = (0..n as usize).all(row_same);
+        run.tally.consistent(same == (length >= MOST_WORDS), || {
+            format!("a table of {MOST_ROWS} rows lent with {length} words: {same} that its rows are the same")
+        });
+        for reference in [64, 64 + 300, 64 + n - 1] {
+            questions::whole_type(run, &mut subject, reference);
+            questions::lists(run, &mut subject, &[2, reference], &[reference]);
         }
     }
 }

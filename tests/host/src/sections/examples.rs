@@ -1,7 +1,8 @@
-//! 01's examples and order 4's, with the papers' own numbers written out. What the three say is compared as
-//! anywhere; here the model's answers are held to the papers too.
+//! 01's examples and order 4's, with the papers' own numbers written out, and whole tables in order 11's
+//! columns. What the three say is compared as anywhere; here the model's answers are held to the papers too.
 use crate::calls::{Question, Side};
-use crate::compare::{Built, Run};
+use crate::compare::{Built, Run, Subject};
+use crate::model::{Answer, Refused};
 use crate::{encode, model};
 
 const U8: u32 = 2;
@@ -27,6 +28,7 @@ pub fn run(run: &mut Run) {
     row_is(run, &built, 1, &[0, 1, 2, 3, 4, 5], &[1, 16, 4, 24, 8, 5]);
     row_is(run, &built, 2, &[0, 1, 2, 3, 4, 5], &[8, 20, 4, 32, 8, 6]);
     super::questions::every(run, &mut built.subject);
+    columns(run);
 }
 
 fn records(run: &mut Run) {
@@ -130,7 +132,7 @@ fn signatures(run: &mut Run) {
             lift_types: vec![],
             k: 0,
         };
-        answer_is(run, &mut built, &question, encode::flat(list, 0));
+        answer_is(run, &mut built.subject, &question, encode::flat(list, 0));
     }
     // "Async return, lift sync 64, lower async 32, one U32 each: parameters I32 I64, no results."
     for (k, list) in [(0, encode::flat(2, 0b01_00)), (1, 0)] {
@@ -141,7 +143,7 @@ fn signatures(run: &mut Run) {
             lower_types: vec![U32],
             k,
         };
-        answer_is(run, &mut built, &question, list);
+        answer_is(run, &mut built.subject, &question, list);
     }
     // "Dropping an empty result record in async return: the list is not empty."
     let mut built = accepted(run, &[1, 0], 1);
@@ -152,7 +154,49 @@ fn signatures(run: &mut Run) {
         lower_types: vec![64],
         k: 0,
     };
-    answer_is(run, &mut built, &question, encode::flat(1, 1));
+    answer_is(run, &mut built.subject, &question, encode::flat(1, 1));
+}
+
+/// What was in a lent table.
+const LENT: u32 = 7;
+
+/// Order 11: "sixteen runs, one per word of the old row, each as long as the table's capacity". The types
+/// are list(U8) and option(U8).
+fn columns(run: &mut Run) {
+    // 33 words are a capacity of 2, and the last of them is in no run.
+    let both = [
+        3, 8, 8, 2, 4, 1, 16, 2, 8, 1, 2, 2, 0, 0, 5, 0, 0, 1, 0, 1, 0, 1, 0, 0, 0, 0, 0, 0, 0, 0,
+        0, 0, LENT,
+    ];
+    table_is(run, &[3, U8, 8, U8], Ok(2), &both);
+    // "A refused build leaves earlier entries of each run written, all else as it was."
+    let refused = Refused { number: 3, at: 1 };
+    let first = std::array::from_fn::<_, 33, _>(|place| match place % 2 {
+        0 => both[place],
+        _ => LENT,
+    });
+    table_is(run, &[3, U8, 99, U8], Err(refused), &first);
+    // 31 words are a capacity of 1, so each run is one word long.
+    let mut alone = [LENT; 31];
+    alone[..16].copy_from_slice(&[3, 8, 4, 16, 8, 2, 0, 5, 0, 0, 0, 0, 0, 0, 0, 0]);
+    table_is(run, &[3, U8], Ok(1), &alone);
+    // Cut to 31 words, the table of both has other cells: row 0 has for 64 a size of 2 and an alignment of 4.
+    let mut cut = run.forged(both[..31].to_vec(), 1);
+    let question = Question::Type {
+        reference: 64,
+        k: 0,
+    };
+    answer_is(run, &mut cut, &question, 8 << 56);
+}
+
+/// Builds in a table of as many words as these, which it must hold then.
+fn table_is(run: &mut Run, words: &[u32], answer: Answer<u64>, table: &[u32]) {
+    run.build_in(words, table.len());
+    let mut lent = vec![LENT; table.len()];
+    let said = model::build(words, &mut lent);
+    run.tally.consistent(said == answer && lent == table, || {
+        format!("the table of {words:?} is {table:?}, {answer:?}; the model's {lent:?}, {said:?}")
+    });
 }
 
 fn accepted(run: &mut Run, words: &[u32], n: u64) -> Built {
@@ -182,9 +226,8 @@ fn row_is(run: &mut Run, built: &Built, row: usize, words: &[usize], numbers: &[
 }
 
 /// Asks, and holds the model's answer to the paper; what the model writes into a placement's buffer.
-fn answer_is(run: &mut Run, built: &mut Built, question: &Question, answer: u64) -> Vec<u32> {
-    run.ask(&mut built.subject, question);
-    let subject = &built.subject;
+fn answer_is(run: &mut Run, subject: &mut Subject, question: &Question, answer: u64) -> Vec<u32> {
+    run.ask(subject, question);
     let mut offsets = vec![0; question.rooms()[0].unwrap_or(0)];
     let written = [&mut offsets[..], &mut []];
     let said = encode::answer(model::ask(question, &subject.table, subject.n, written));
@@ -207,7 +250,12 @@ fn placement_is(
         references: references.to_vec(),
         room: references.len(),
     };
-    let said = answer_is(run, built, &question, encode::placement(size, align));
+    let said = answer_is(
+        run,
+        &mut built.subject,
+        &question,
+        encode::placement(size, align),
+    );
     run.tally.consistent(said == offsets, || {
         format!("01's example {question:?} has offsets {offsets:?}; the model says {said:?}")
     });

@@ -1,7 +1,7 @@
 //! Tables that no build wrote, of good form and not.
 use super::questions;
 use crate::calls::Question;
-use crate::compare::Run;
+use crate::compare::{Run, Subject};
 use crate::generate::{self, Shape};
 use crate::model::{self, MOST_ROWS, ROW, Row, capacity, table_of};
 
@@ -16,6 +16,7 @@ pub fn run(run: &mut Run) {
         let rows = rows_of(run, rows);
         one_word_changed(run, &rows);
         built_and_changed(run);
+        lent_otherwise(run);
     }
     numbers_of_rows(run);
 }
@@ -57,6 +58,31 @@ fn built_and_changed(run: &mut Run) {
     if !rows.is_empty() {
         one_word_changed(run, &rows);
     }
+}
+
+/// A built table lent shorter and longer than it was built, which gives it other cells where it has room
+/// for more rows or for fewer.
+fn lent_otherwise(run: &mut Run) {
+    let shape = Shape {
+        definitions: run.random.between(1, 6),
+        members: run.random.between(1, 5),
+        large: false,
+    };
+    let words = generate::description(&mut run.random, shape);
+    let Subject { table, n, .. } = run.description(&words).subject;
+    let built = table.len();
+    let rows = ROW * n as usize;
+    for length in [rows, built - ROW, built - 1, built + 1, built + ROW] {
+        let mut subject = with_length(run, &table, length, n);
+        questions::some(run, &mut subject);
+    }
+}
+
+/// So many words of a table; beyond its own they are random.
+pub fn with_length(run: &mut Run, table: &[u32], length: usize, n: u32) -> Subject {
+    let more = std::iter::repeat_with(|| run.random.word());
+    let words = table.iter().copied().chain(more).take(length).collect();
+    run.forged(words, n)
 }
 
 fn rows_of(run: &mut Run, rows: u64) -> Vec<Row> {

@@ -1,8 +1,8 @@
--- A row that is named stands within the table (`row-is`); its test is that of the good form.
+-- The table has the row that is named (`row-is`); its test is that of the good form.
 use mathlib.Core.Path.{refl, sym, _∙_}
 use borrow.Author.Tests.{lt-ltb, le-ltb, le-leb}
 use Rattle.canon.specs.Question.{readRow, read}
-use Rattle.questions.proofs.References.{row-is}
+use Rattle.table.proofs.Reading.{row-is}
 use borrow.Author.Needs.{needs}
 use Rattle.questions.proofs.read.row_named.Statement.{statement}
 use Rattle.questions.proofs.read.row_named.Tie as tie

@@ -6,9 +6,9 @@ use Prim.Native.Nat.{ℕ, _+_, _-_, _/_, _≤_}
 use native.Mathlib.Omega.{arith}
 use lib.ListN.{length, getD, drop, length-set}
 use Rattle.canon.specs.Table.{cell, cellsFrom, putFrom}
-use Rattle.canon.proofs.Cells.{place-fits, put-step, put-none}
+use Rattle.canon.proofs.Cells.{place-fits, put-step, put-none, cell-of}
 use Rattle.words.specs.Words.{wholeWords}
-use Rattle.table.proofs.Reading.{length-cells, cell-of}
+use Rattle.table.proofs.Reading.{length-cells}
 use Rattle.table.proofs.from_bytes.take_cells.Statement.{statement}
 use Rattle.table.proofs.from_bytes.take_cells.Tie as tie
 

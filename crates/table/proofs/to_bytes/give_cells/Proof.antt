@@ -8,7 +8,7 @@ use native.Mathlib.Omega.{arith}
 use Rattle.canon.specs.Table.{cell, cellsFrom}
 use Rattle.words.specs.Words.{wholeWords, putWords}
 use Rattle.table.proofs.Giving.{leftInto, give-turn, give-end}
-use Rattle.table.proofs.Reading.{cells-at}
+use Rattle.canon.proofs.Cells.{cells-at}
 use Rattle.table.proofs.to_bytes.give_cells.Statement.{statement}
 use Rattle.table.proofs.to_bytes.give_cells.Tie as tie
 
