@@ -22,7 +22,7 @@ plainInfo (some t) = is (infoOf t)
 unfoldable pub readRow : List ℕ → Leaf Info
 readRow r = cond (isGood r) (is (rowInfo r)) (no badRow)
 
--- what one reference gives where the row j is row j, of n: "BadRef before BadRow"
+-- what one reference gives among n rows, of which `row` gives each: "BadRef before BadRow"
 abbrev pub reading : (ℕ → List ℕ) → ℕ → ℕ → Leaf Info
 reading row n w = cond (leb 64 w) (cond (ltb (w - 64) n) (readRow (row (w - 64))) (no badRef)) (plainInfo (getElem? plain w))
 
