@@ -214,9 +214,9 @@ fn build_rows(description: &[u32], table: &mut [u32]) -> Result<u32> {
 
 impl<W: AsRef<[u32]>> Table<W> {
     /// The table of `rows` rows that stand in `words`, whoever wrote them. It takes the whole buffer that
-    /// the table was built in: where a word stands depends on the length, so a part of a table is another table.
-    /// Nothing is tested here: a question answers BadRow if the words do not suffice, or if a row that it
-    /// reads is not well formed.
+    /// the table was built in: where a word stands depends on the length, so a part of a table is another
+    /// table. Nothing is tested here: a question answers BadRow if the words do not suffice, or if a row
+    /// that it reads is not well formed.
     ///
     /// ```
     /// # use lampughjata::{Reference, Refusal, Table};
@@ -259,8 +259,8 @@ impl<W: AsRef<[u32]>> Table<W> {
     }
 
     /// One word of every row, in the order of the definitions, untested: what a viewer scans that wants
-    /// one property of all types. None for a word that no row has, and if the buffer has no
-    /// room for so many rows.
+    /// one property of all types. None for a word that no row has, and if the buffer has no room for so
+    /// many rows.
     ///
     /// ```
     /// # use lampughjata::{Description, Reference, Table};
