@@ -4,7 +4,7 @@
 
 use crate::table::{cell, put_row};
 
-/// What a member contributes.
+/// What a member contributes, or what all members so far do.
 #[derive(Clone, Copy)]
 struct Info {
     size: [u32; 2],
@@ -13,6 +13,8 @@ struct Info {
     flat: u32,
     types: [u32; 2],
     borrow: u32,
+    /// How deep it goes, or the deepest of them does.
+    depth: u32,
 }
 
 const fn scalar(size: u32, code: u32) -> Info {
@@ -22,16 +24,18 @@ const fn scalar(size: u32, code: u32) -> Info {
         flat: 1,
         types: [code; 2],
         borrow: 0,
+        depth: 0,
     }
 }
 
-const fn pair(borrow: u32) -> Info {
+const fn pair(borrow: u32, depth: u32) -> Info {
     Info {
         size: [8, 16],
         align: [4, 8],
         flat: 2,
         types: [0, 0b01_01],
         borrow,
+        depth,
     }
 }
 
@@ -48,7 +52,7 @@ const SCALARS: [Info; 18] = [
     scalar(4, 2),
     scalar(8, 3),
     scalar(4, 0),
-    pair(0),
+    pair(0, 0),
     scalar(4, 0),
     Info {
         borrow: 1,
@@ -65,6 +69,7 @@ const EMPTY: Info = Info {
     flat: 0,
     types: [0; 2],
     borrow: 0,
+    depth: 0,
 };
 
 const NONE: u32 = 255;
@@ -116,7 +121,8 @@ unsafe fn definition(words: &[u32], at: usize, table: &mut [u32], index: usize) 
         }
         3 => {
             let element = unsafe { get(second, table) };
-            unsafe { write(table, index, kind, &pair(element.borrow), [0; 7]) };
+            let info = pair(element.borrow, element.depth);
+            unsafe { write(table, index, kind, &info, [0; 7]) };
             2
         }
         5 => {
@@ -166,7 +172,8 @@ unsafe fn get(reference: u32, table: &[u32]) -> Info {
         align: [word(2), word(4)],
         flat: word(5),
         types: [word(6), word(7)],
-        borrow: word(15),
+        borrow: word(15) & 1,
+        depth: word(15) >> 1,
     }
 }
 
@@ -184,6 +191,7 @@ unsafe fn record(words: &[u32], from: usize, n: usize, table: &[u32]) -> Info {
         }
         all.flat = add_flat(all.flat, member.flat);
         all.borrow |= member.borrow;
+        all.depth = all.depth.max(member.depth);
     }
     for memory in 0..2 {
         all.size[memory] = up(all.size[memory], all.align[memory]);
@@ -232,6 +240,7 @@ unsafe fn variant(
         }
         all.flat = all.flat.max(payload.flat);
         all.borrow |= payload.borrow;
+        all.depth = all.depth.max(payload.depth);
     }
     let mut extra = [0; 7];
     extra[0] = discriminant;
@@ -269,7 +278,7 @@ unsafe fn map(key: u32, value: u32, table: &mut [u32], index: usize) {
         extra[3 + 2 * memory] = up(offset.wrapping_add(value.size[memory]), align);
         extra[4 + 2 * memory] = align;
     }
-    let info = pair(key.borrow | value.borrow);
+    let info = pair(key.borrow | value.borrow, key.depth.max(value.depth));
     unsafe { write(table, index, 5, &info, extra) };
 }
 
@@ -291,10 +300,11 @@ fn fixed(element: Info, count: u32) -> Info {
         flat: if none { NONE } else { flat },
         types,
         borrow: element.borrow,
+        depth: element.depth,
     }
 }
 
-/// `extra` is words 8 to 14.
+/// `extra` is words 8 to 14. The definition is one deeper than the deepest that it refers to.
 #[inline]
 unsafe fn write(table: &mut [u32], index: usize, kind: u32, info: &Info, extra: [u32; 7]) {
     let row = [
@@ -313,7 +323,7 @@ unsafe fn write(table: &mut [u32], index: usize, kind: u32, info: &Info, extra: 
         extra[4],
         extra[5],
         extra[6],
-        info.borrow,
+        info.borrow + 2 * (info.depth + 1),
     ];
     unsafe { put_row(table, index, row) };
 }

@@ -45,7 +45,7 @@ unsafe fn read(reference: u32, table: &[u32], n: u32) -> Option<Read> {
         && aligned(word(3), word(4))
         && (word(6) | word(7)) & unused == 0
         && matches!(word(8), 0 | 1 | 2 | 4)
-        && word(15) <= 1;
+        && matches!(word(15), 2..=201);
     good.then(|| Read {
         size: word(1),
         align: word(2),

@@ -14,7 +14,7 @@ enum { MEMORY32 = 0, MEMORY64 = 1 };
 enum { SYNC = 0, ASYNC = 1 };
 
 /* Which number of a type is asked for, and which list of a signature. */
-enum { SIZE32, ALIGN32, SIZE64, ALIGN64, FLAT_COUNT, FLAT32, FLAT64, BORROW };
+enum { SIZE32, ALIGN32, SIZE64, ALIGN64, FLAT_COUNT, FLAT32, FLAT64, BORROW, DEPTH };
 enum { PARAMETERS, RESULTS };
 
 /* A row has so many words; which of them is the size in a 64-bit memory; room for so many rows. */
@@ -47,16 +47,16 @@ static void print_list(uint64_t list)
 /* The type's own numbers, each asked for by itself. */
 static int print_type(const uint32_t *table, size_t words, uint32_t rows)
 {
-    uint64_t number[BORROW + 1];
-    for (uint32_t k = SIZE32; k <= BORROW; k++) {
+    uint64_t number[DEPTH + 1];
+    for (uint32_t k = SIZE32; k <= DEPTH; k++) {
         number[k] = lampughjata_type(table, words, rows, DEFINITION_0, k);
         if (is_refused("type", number[k])) return 1;
     }
     printf("type: size %u, alignment %u in a 32-bit memory; size %u, alignment %u in a 64-bit one;",
            (unsigned)number[SIZE32], (unsigned)number[ALIGN32], (unsigned)number[SIZE64],
            (unsigned)number[ALIGN64]);
-    printf(" %u core types; %s\n", (unsigned)number[FLAT_COUNT],
-           number[BORROW] ? "with a Borrow" : "no Borrow");
+    printf(" %u core types; %s; depth %u\n", (unsigned)number[FLAT_COUNT],
+           number[BORROW] ? "with a Borrow" : "no Borrow", (unsigned)number[DEPTH]);
     return 0;
 }
 

@@ -3,7 +3,7 @@
  * position in the low 32 bits; else the value. HOST.md says what each number stands for. Any number may be passed; each pointer
  * has so many elements behind it, and memory that is written overlaps nothing else that is lent.
  *
- * Each call has examples, which the project compiles and holds to the library (`bindings/c/run --tests`). They are about the record
+ * Each call has examples, which the project compiles and holds to the library (`bindings/c/run --tests`). Most are about the record
  * (U8, String, U8), and each stands on those before it:
  *
  *     uint32_t words[] = {1, 3, 2, 12, 2}, table[16], longer[40], members[] = {2, 12, 2}, offsets[3], record[] = {64};
@@ -81,12 +81,30 @@ uint64_t lampughjata_variant(const uint32_t *cases, size_t cases_len, uint32_t k
  *     table[1] == 16
  *     lampughjata_build(words, 5, longer, 40) == 1
  *     longer[1 * 2] == 16
- *     lampughjata_build(words, 5, NULL, 0) == 7 * REFUSED */
+ *     lampughjata_build(words, 5, NULL, 0) == 7 * REFUSED
+ *
+ * Word 15 is twice the depth, and 1 more if the type holds a Borrow. The depth of a definition is 1 if it refers to no definition,
+ * else one more than that of the deepest. A depth above 100 is refused (9); below are 101 lists, the first of U8 and each other of
+ * the one before.
+ *     table[15] == 2
+ *     lampughjata_build((uint32_t[]){3, 14, 8, 64}, 4, longer, 40) == 2
+ *     longer[15 * 2] == 1 + 2 * 1
+ *     longer[15 * 2 + 1] == 1 + 2 * 2
+ *     uint32_t lists[202] = {3, 2}, deep[1616];
+ *     for (uint32_t i = 1; i < 101; i++) lists[2 * i] = 3, lists[2 * i + 1] = 64 + (i - 1);
+ *     lampughjata_build(lists, 200, deep, 1616) == 100
+ *     lampughjata_build(lists, 202, deep, 1616) == 9 * REFUSED + 100 */
 uint64_t lampughjata_build(const uint32_t *words, size_t words_len, uint32_t *table, size_t table_len);
 
-/* One number of a type: k = 0 to 4 its info, 5 and 6 its core types, 7 whether it holds a Borrow.
+/* One number of a type: k = 0 to 4 its info, 5 and 6 its core types, 7 whether it holds a Borrow, 8 its depth, which is 0 for what
+ * is no definition.
  *     lampughjata_type(table, 16, 1, 64, 0) == 16
  *     lampughjata_type(table, 16, 1, 64, 6) == 0x14
+ *     lampughjata_type(table, 16, 1, 64, 8) == 1
+ *     lampughjata_type(longer, 40, 2, 65, 7) == 1
+ *     lampughjata_type(longer, 40, 2, 65, 8) == 2
+ *     lampughjata_type(NULL, 0, 0, 14, 7) == 1
+ *     lampughjata_type(NULL, 0, 0, 14, 8) == 0
  *     lampughjata_type(table, 16, 1, 65, 0) == 4 * REFUSED */
 uint64_t lampughjata_type(const uint32_t *table, size_t table_len, uint32_t rows, uint32_t reference, uint32_t k);
 
@@ -141,7 +159,9 @@ uint64_t lampughjata_contains_borrow(const uint32_t *table, size_t table_len, ui
  *     lampughjata_variant_bytes((uint8_t *)cases, 48, 7) == 8
  *     lampughjata_build_bytes((uint8_t *)words, 20, (uint8_t *)table, 64) == 1
  *     lampughjata_build_bytes((uint8_t *)words, 19, (uint8_t *)table, 64) == 2 * REFUSED
+ *     lampughjata_build_bytes((uint8_t *)lists, 808, (uint8_t *)deep, 6464) == 9 * REFUSED + 100
  *     lampughjata_type_bytes((uint8_t *)table, 64, 1, 64, 0) == 16
+ *     lampughjata_type_bytes((uint8_t *)longer, 160, 2, 65, 8) == 2
  *     lampughjata_size_align_bytes(1, (uint8_t *)table, 64, 1, 64) == 32 + 8 * ALIGN
  *     lampughjata_placement_bytes(0, (uint8_t *)table, 64, 1, (uint8_t *)members, 12, (uint8_t *)offsets, 12) == 16 + 4 * ALIGN
  *     offsets[2] == 12

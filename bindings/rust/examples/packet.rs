@@ -41,6 +41,9 @@ fn main() -> Result<(), Refused> {
         None => println!("a packet travels through memory"),
     }
 
+    // A screen that shows its members, and what these are made of, goes so many levels down.
+    println!("a packet is {} definitions deep", info.depth);
+
     // The imager, with a 32-bit memory, calls the store, with a 64-bit one: `store(packet) -> bool`.
     // Both are async, so an adapter between them needs two core functions.
     let side = |memory, types| Side {

@@ -51,7 +51,8 @@ impl Reference {
 /// which later definitions and questions mean it.
 ///
 /// Nothing is tested here: [`Table::build`](crate::Table::build) says what is wrong with a description,
-/// and takes words from elsewhere as well.
+/// and takes words from elsewhere as well. It refuses a definition with a depth above 100
+/// ([`Info::depth`](crate::Info::depth)).
 #[derive(Clone, Debug, Default, PartialEq, Eq)]
 pub struct Description {
     words: Vec<u32>,

@@ -25,10 +25,12 @@ pub enum Refusal {
     NoRoom = 7,
     /// More rows than the table has room for, or a row that was read and is not well formed.
     BadRow = 8,
+    /// A definition of a depth above 100 ([`Info::depth`](crate::Info::depth)). Only a build answers it.
+    TooDeep = 9,
 }
 
 impl Refusal {
-    const ALL: [Refusal; 8] = [
+    const ALL: [Refusal; 9] = [
         Refusal::TooLong,
         Refusal::Truncated,
         Refusal::BadKind,
@@ -37,9 +39,10 @@ impl Refusal {
         Refusal::TooLarge,
         Refusal::NoRoom,
         Refusal::BadRow,
+        Refusal::TooDeep,
     ];
 
-    /// The refusal's number, 1 to 8.
+    /// The refusal's number, 1 to 9.
     pub fn number(self) -> u8 {
         self as u8
     }
@@ -63,6 +66,7 @@ impl fmt::Display for Refusal {
             Refusal::TooLarge => "an offset or a size is above 4294967295",
             Refusal::NoRoom => "the buffer has no room for the next row or for all offsets",
             Refusal::BadRow => "more rows than the table has room for, or a row not well formed",
+            Refusal::TooDeep => "a definition is more than 100 definitions deep",
         })
     }
 }

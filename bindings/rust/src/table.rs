@@ -77,7 +77,20 @@ impl fmt::Display for Placement {
 }
 
 /// What the canonical ABI says of one type: the five numbers of wasmtime's `CanonicalAbiInfo`, its core
-/// types, and whether it holds a Borrow.
+/// types, and whether it holds a Borrow; and how deep it goes.
+///
+/// ```
+/// use lampughjata::{Description, Reference, Table};
+///
+/// let mut description = Description::new();
+/// let handles = description.list(Reference::BORROW);
+/// let held = description.record(&[Reference::U8, handles]);
+/// let table = Table::build(description.words())?;
+///
+/// let depth = |reference| table.type_of(reference).map(|info| info.depth);
+/// assert_eq!((depth(Reference::BORROW)?, depth(handles)?, depth(held)?), (0, 1, 2));
+/// # Ok::<(), lampughjata::Refused>(())
+/// ```
 #[derive(Clone, Copy, Debug, PartialEq, Eq, Hash)]
 pub struct Info {
     pub size32: u32,
@@ -92,6 +105,9 @@ pub struct Info {
     pub flat64: CoreTypes,
     /// Whether a Borrow is reached through it, list elements too.
     pub borrow: bool,
+    /// How many definitions lie one in another: one more than the deepest that it refers to, list
+    /// elements and map parts too, and 1 if it refers to none. At most 100; 0 for what is no definition.
+    pub depth: u32,
 }
 
 impl Info {
@@ -124,8 +140,8 @@ impl Info {
 ///
 /// The words of a row, 32-bit before 64-bit where there are two: 0 kind; 1 to 4 size and alignment twice;
 /// 5 number of core types, 255 for none; 6 and 7 these types; 8 discriminant size; 9 and 10 offset of the
-/// payload, or of a map's value; 11 to 14 size and alignment of a map's entry twice; 15 whether it holds
-/// a Borrow.
+/// payload, or of a map's value; 11 to 14 size and alignment of a map's entry twice; 15 twice the depth,
+/// and 1 more if it holds a Borrow.
 ///
 /// The examples below are about the record (U8, String, U8), and begin with
 ///
@@ -216,7 +232,8 @@ impl<W: AsRef<[u32]>> Table<W> {
     /// The table of `rows` rows that stand in `words`, whoever wrote them. It takes the whole buffer that
     /// the table was built in: where a word stands depends on the length, so a part of a table is another
     /// table. Nothing is tested here: a question answers BadRow if the words do not suffice, or if a row
-    /// that it reads is not well formed.
+    /// that it reads is not well formed. A row that was built before rows had a depth is not: build the
+    /// table again.
     ///
     /// ```
     /// # use lampughjata::{Reference, Refusal, Table};
@@ -248,6 +265,7 @@ impl<W: AsRef<[u32]>> Table<W> {
     /// let table = Table::build(description.words())?;
     /// let row = table.row(0).unwrap();
     /// assert_eq!((row[9], row[10]), (8, 8), "where the payload stands");
+    /// assert_eq!(row[15], 2, "twice the depth, and no Borrow");
     /// # Ok::<(), lampughjata::Refused>(())
     /// ```
     pub fn row(&self, index: u32) -> Option<[u32; 16]> {
@@ -280,7 +298,7 @@ impl<W: AsRef<[u32]>> Table<W> {
         is_there.then(|| &words[place(capacity, 0, word)..][..rows])
     }
 
-    /// What the canonical ABI says of one type.
+    /// What the canonical ABI says of one type, and its depth.
     ///
     /// ```
     /// # use lampughjata::{Description, Reference, Table};
@@ -291,7 +309,7 @@ impl<W: AsRef<[u32]>> Table<W> {
     /// let info = table.type_of(named)?;
     /// assert_eq!((info.size32, info.align32, info.flat_count), (16, 4, Some(4)));
     /// assert_eq!(info.flat64.to_string(), "(I32, I64, I64, I32)");
-    /// assert!(!info.borrow);
+    /// assert_eq!((info.borrow, info.depth), (false, 1));
     /// # Ok::<(), lampughjata::Refused>(())
     /// ```
     pub fn type_of(&self, reference: Reference) -> Result<Info> {
@@ -311,6 +329,7 @@ impl<W: AsRef<[u32]>> Table<W> {
             flat32: flat_types(5)?,
             flat64: flat_types(6)?,
             borrow: number(7)? != 0,
+            depth: number(8)? as u32,
         })
     }
 

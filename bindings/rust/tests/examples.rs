@@ -1,4 +1,4 @@
-//! The examples of the scope document and of order 4, through the crate.
+//! The examples of the scope document and of order 4, and depths by order 5's rule, through the crate.
 use lampughjata::{
     Calling, CoreType, Description, Info, Layout, Memory, Place, Placement, Reference, Refusal,
     Refused, Side, Table,
@@ -254,12 +254,12 @@ fn words_of_the_program() {
     let table = Table::build(description.words()).unwrap();
     let row = |reference| {
         let info = table.type_of(reference).unwrap();
-        (sizes(&info), info.flat_count)
+        (sizes(&info), info.flat_count, info.depth)
     };
     assert_eq!(table.rows(), 3);
-    assert_eq!(row(bytes), ([(8, 4), (16, 8)], Some(2)));
-    assert_eq!(row(record), ([(16, 4), (24, 8)], Some(5)));
-    assert_eq!(row(option), ([(20, 4), (32, 8)], Some(6)));
+    assert_eq!(row(bytes), ([(8, 4), (16, 8)], Some(2), 1));
+    assert_eq!(row(record), ([(16, 4), (24, 8)], Some(5), 2));
+    assert_eq!(row(option), ([(20, 4), (32, 8)], Some(6), 3));
 }
 
 #[test]
@@ -306,4 +306,58 @@ fn borrows_are_reached_through_lists() {
     assert!(table.type_of(handles).unwrap().borrow);
     assert_eq!(table.contains_borrow(&[Reference::U8, handles]), Ok(true));
     assert_eq!(table.contains_borrow(&[Reference::OWN]), Ok(false));
+}
+
+#[test]
+fn what_is_no_definition_has_no_depth() {
+    let table = Table::build(&[]).unwrap();
+    for word in 0..18 {
+        let info = table.type_of(Reference(word)).unwrap();
+        let is_borrow = Reference(word) == Reference::BORROW;
+        assert_eq!((info.borrow, info.depth), (is_borrow, 0), "{word}");
+    }
+}
+
+/// The depth of each definition, and word 15 of its row.
+fn depths(description: &Description) -> Vec<(u32, u32)> {
+    let table = Table::build(description.words()).unwrap();
+    let depth = |index| table.type_of(Reference::definition(index)).unwrap().depth;
+    let words = table.column(15).unwrap().iter();
+    let indexed = (0..).zip(words);
+    indexed.map(|(index, word)| (depth(index), *word)).collect()
+}
+
+#[test]
+fn borrow_and_depth_share_a_word() {
+    let mut description = Description::new();
+    let handles = description.list(Reference::BORROW);
+    let bytes = description.list(Reference::U8);
+    description.record(&[Reference::U8, handles]);
+    description.option(bytes);
+    assert_eq!(depths(&description), [(1, 3), (1, 2), (2, 5), (2, 4)]);
+}
+
+#[test]
+fn a_map_is_deeper_than_its_key_and_its_value() {
+    let mut description = Description::new();
+    let byte = description.option(Reference::U8);
+    let bytes = description.list(byte);
+    description.map(Reference::U8, Reference::BORROW);
+    description.map(byte, bytes);
+    description.map(bytes, byte);
+    assert_eq!(
+        depths(&description),
+        [(1, 2), (2, 4), (1, 3), (3, 6), (3, 6)]
+    );
+}
+
+/// The flags are reached in three ways, and parts that stand side by side or are named twice add nothing.
+#[test]
+fn the_depth_is_the_longest_way_down() {
+    let mut description = Description::new();
+    let flags = description.flags(3);
+    let list = description.list(flags);
+    let option = description.option(list);
+    description.variant(&[Some(flags), None, Some(option), Some(option), Some(list)]);
+    assert_eq!(depths(&description), [(1, 2), (2, 4), (3, 6), (4, 8)]);
 }

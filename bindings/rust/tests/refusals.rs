@@ -11,6 +11,12 @@ fn build(words: &[u32]) -> (u8, Place, String) {
     refused(Table::build(words))
 }
 
+/// Number and place of a refused build.
+fn stopped(words: &[u32]) -> (u8, Place) {
+    let (number, place, _) = build(words);
+    (number, place)
+}
+
 fn at_definition(number: u8, index: u32, says: &str) -> (u8, Place, String) {
     (number, Place::Definition(index), says.to_string())
 }
@@ -23,7 +29,7 @@ fn at_reference(number: u8, position: u32, says: &str) -> (u8, Place, String) {
 fn numbers_and_refusals_match() {
     for number in 0..=255 {
         let found = Refusal::from_number(number).map(Refusal::number);
-        assert_eq!(found, (1..=8).contains(&number).then_some(number));
+        assert_eq!(found, (1..=9).contains(&number).then_some(number));
     }
 }
 
@@ -84,6 +90,112 @@ fn builds() {
              definition 1024)"
         )
     );
+}
+
+/// As many lists as `depth`, the first of `element` and each other of the one before it; and the last.
+fn chain(element: Reference, depth: u32) -> (Description, Reference) {
+    let mut description = Description::new();
+    let last = (0..depth).fold(element, |inner, _| description.list(inner));
+    (description, last)
+}
+
+#[test]
+fn a_depth_of_100_is_the_last() {
+    for (element, word) in [(Reference::U8, 200), (Reference::BORROW, 201)] {
+        let (description, last) = chain(element, 100);
+        let table = Table::build(description.words()).unwrap();
+        assert_eq!(table.type_of(last).unwrap().depth, 100);
+        assert_eq!(table.row(99).unwrap()[15], word);
+
+        let (description, _) = chain(element, 101);
+        assert_eq!(
+            build(description.words()),
+            at_definition(
+                9,
+                100,
+                "a definition is more than 100 definitions deep (refusal 9 at definition 100)"
+            )
+        );
+    }
+}
+
+#[test]
+fn every_kind_with_a_part_can_be_too_deep() {
+    let kinds: [fn(&mut Description, Reference) -> Reference; 11] = [
+        |d, part| d.record(&[Reference::U8, part]),
+        |d, part| d.variant(&[None, Some(part)]),
+        |d, part| d.list(part),
+        |d, part| d.tuple(&[part, Reference::U8]),
+        |d, part| d.map(part, Reference::U8),
+        |d, part| d.map(Reference::U8, part),
+        |d, part| d.option(part),
+        |d, part| d.result(Some(part), None),
+        |d, part| d.result(None, Some(part)),
+        |d, part| d.fixed_list(part, 0),
+        |d, part| d.fixed_list(part, 1),
+    ];
+    for define in kinds {
+        let (mut description, last) = chain(Reference::U8, 99);
+        let last = define(&mut description, last);
+        let table = Table::build(description.words()).unwrap();
+        assert_eq!(table.type_of(last).unwrap().depth, 100);
+
+        // The flags are there so that the refused definition's index is not its depth less one.
+        description.flags(1);
+        define(&mut description, last);
+        assert_eq!(stopped(description.words()), (9, Place::Definition(101)));
+    }
+}
+
+/// BadKind and BadCount are of definitions without parts, which are never too deep.
+#[test]
+fn too_deep_comes_after_no_room_truncated_and_bad_ref() {
+    let (deepest, last) = chain(Reference::U8, 100);
+    // Definition 100 names itself, before or after a part that makes it too deep.
+    let itself = Reference::definition(100);
+    for members in [[last, itself], [itself, last]] {
+        let mut description = deepest.clone();
+        description.record(&members);
+        assert_eq!(stopped(description.words()), (4, Place::Definition(100)));
+    }
+    let truncated = [deepest.words(), &[1, 2, last.0]].concat();
+    assert_eq!(stopped(&truncated), (2, Place::Definition(100)));
+
+    let (too_deep, _) = chain(Reference::U8, 101);
+    let mut buffer = [0; 100 * 16];
+    let (number, place, _) = refused(Table::build_in(too_deep.words(), &mut buffer));
+    assert_eq!((number, place), (7, Place::Definition(100)));
+}
+
+#[test]
+fn too_deep_comes_before_too_large() {
+    for (depth, number) in [(99, 6), (100, 9)] {
+        let (lists, last) = chain(Reference::U8, depth);
+        let mut large = lists.clone();
+        large.fixed_list(last, 4_294_967_295);
+        let refused = (number, Place::Definition(depth));
+        assert_eq!(stopped(large.words()), refused);
+
+        let mut large = lists;
+        let huge = large.fixed_list(Reference::U8, 4_294_967_295);
+        large.map(huge, last);
+        let refused = (number, Place::Definition(depth + 1));
+        assert_eq!(stopped(large.words()), refused, "a map's entry");
+    }
+}
+
+#[test]
+fn a_build_that_is_too_deep_has_written_the_rows_before() {
+    const ROOM: usize = 102;
+    let (too_deep, _) = chain(Reference::U8, 101);
+    let mut buffer = [9; ROOM * 16];
+    let (number, ..) = refused(Table::build_in(too_deep.words(), &mut buffer));
+    assert_eq!(number, 9);
+    // Word 15 of each row: the depths 1 to 100 doubled, and then two words as they were.
+    let expected: Vec<u32> = (1..=100).map(|depth| 2 * depth).chain([9, 9]).collect();
+    assert_eq!(buffer[15 * ROOM..], expected);
+    let kinds = [vec![3; 100], vec![9; 2]].concat();
+    assert_eq!(buffer[..ROOM], kinds);
 }
 
 #[test]
@@ -156,7 +268,28 @@ fn tables_from_elsewhere_are_tested() {
 }
 
 /// The row of flags with 1 to 8 labels.
-const FLAGS: [u32; 16] = [6, 1, 1, 1, 1, 1, 0, 0, 0, 0, 0, 0, 0, 0, 0, 0];
+const FLAGS: [u32; 16] = [6, 1, 1, 1, 1, 1, 0, 0, 0, 0, 0, 0, 0, 0, 0, 2];
+
+#[test]
+fn rows_are_tested_for_their_depth() {
+    let flags = Reference::definition(0);
+    let table = |word| Table::from_words([&FLAGS[..15], &[word]].concat(), 1);
+    for (word, borrow, depth) in [
+        (2, false, 1),
+        (3, true, 1),
+        (200, false, 100),
+        (201, true, 100),
+    ] {
+        let info = table(word).type_of(flags).unwrap();
+        assert_eq!((info.borrow, info.depth), (borrow, depth), "{word}");
+        assert_eq!(table(word).contains_borrow(&[flags]), Ok(borrow), "{word}");
+    }
+    // The first two are those that tables had before rows had a depth.
+    for word in [0, 1, 202, 203, 4_294_967_295] {
+        let (number, place, _) = refused(table(word).contains_borrow(&[Reference::U8, flags]));
+        assert_eq!((number, place), (8, Place::Reference(1)), "{word}");
+    }
+}
 
 /// Forty words that held 9, with room for two rows, after so many rows of flags were built in them.
 fn forty_with(rows: usize) -> [u32; 40] {

@@ -57,6 +57,8 @@ fn every_kind_of_definition() {
     let kinds = (0..table.rows()).map(|index| table.row(index).unwrap()[0]);
     assert!(kinds.eq(1..=10));
     assert_eq!(table.column(0), Some(&[1, 2, 3, 4, 5, 6, 7, 8, 9, 10][..]));
+    // None refers to a definition, so each is of depth 1.
+    assert_eq!(table.column(15), Some(&[2; 10][..]));
     // There is room for 15 rows and there are 10, so a run is longer than what is read of it.
     for word in 0..16 {
         let column = (0..table.rows()).map(|index| table.row(index).unwrap()[word]);

@@ -1,4 +1,5 @@
--- The row of each kind from a body's words is canon's, where the words are there: a bad count is refused, then a bad reference, then what is too large.
+-- The row of each kind from a body's words is canon's, where the words are there: a bad count is refused, then a bad reference, then what is too
+-- deep, then what is too large.
 use mathlib.Core.Path.{_≡_, refl, sym, ap, _∙_}
 use mathlib.Core.Bool.{Bool, true, false, cond}
 use mathlib.Core.List.{List, [], _∷_}

@@ -1,4 +1,5 @@
--- The four kinds with cases: after any cases the layout is the payloads' greatest size and alignment, the flat words those of the payloads' lists joined, the borrow any of theirs.
+-- The four kinds with cases: after any cases the layout is the payloads' greatest size and alignment, the flat words those of the payloads' lists
+-- joined, the reach what they reach together.
 use mathlib.Core.Path.{_≡_, refl, sym, ap, _∙_}
 use mathlib.Core.Bool.{true, false}
 use mathlib.Core.Option.{some}
@@ -11,10 +12,10 @@ use Rattle.canon.specs.Flat.{flatten, flatCount, payloadFlats, payloadCounts}
 use Rattle.canon.specs.Pack.{pack}
 use Rattle.canon.specs.Description.{checked}
 use Rattle.canon.specs.Row.{rowKind, noLayout, casesInner, inner, infoOf, typeFlat, rowWords}
-use Rattle.canon.specs.Reach.{noReach, joinReach, reach, caseReach}
+use Rattle.canon.specs.Reach.{joinReach, deeper, reach, caseReach}
 use Rattle.canon.proofs.Reaches.{noReach-join, join-noReach, joinReach-assoc}
 use Rattle.canon.proofs.Alignments.{payloads-aligned}
-use Rattle.canon.proofs.Despecialize.{same-layout, same-flat, same-count, same-reach, same-result, despecialize}
+use Rattle.canon.proofs.Despecialize.{same-layout, same-flat, same-count, same-result, option-reach, result-reach, despecialize}
 use Rattle.canon.proofs.Sizes.{largestPart}
 use Rattle.types.specs.Extents.{extentAt, variantStep}
 use Rattle.types.specs.Leaves.{given, discriminantAnswer}
@@ -44,8 +45,8 @@ after s (holding t ▸ cs) =
 -- after the discriminant of n cases
 closed : (kind n : ℕ) (cs : Cases) →
     payloadsRow kind (discriminant n) (foldCases addIfPayload noPayloads cs)
-    ≡ fitRow (both (λ m. extentAt (variantSize n (payloads m cs)) (variantAlign n (payloads m cs))))
-    (λ ls. rowWords kind ls (both (λ m. typeFlat m (variantOf cs))) (both (λ m. casesInner n (payloads m cs))) (caseReach cs))
+    ≡ fitRow (both (λ m. extentAt (variantSize n (payloads m cs)) (variantAlign n (payloads m cs)))) (caseReach cs)
+    (λ ls. rowWords kind ls (both (λ m. typeFlat m (variantOf cs))) (both (λ m. casesInner n (payloads m cs))))
 unfolding payloadsRow pack
 closed kind n cs =
     ap (payloadsRow kind (discriminant n)) (after noPayloads cs)
@@ -65,7 +66,7 @@ pub record Cased (t : Ty) (n : ℕ) (cs : Cases) : Type 0 where
   pub flats : (m : Memory) → flatten m t ≡ flatten m (variantOf cs)
   pub counts : flatCount t ≡ flatCount (variantOf cs)
   pub inners : (m : Memory) → inner m t ≡ casesInner n (payloads m cs)
-  pub reached : reach t ≡ caseReach cs
+  pub reached : reach t ≡ deeper (caseReach cs)
 
 pub variant-cased : (cs : Cases) → Cased (variantOf cs) (count cs) cs
 unfolding layout reach
@@ -80,7 +81,7 @@ enum-cased n =
 pub option-cased : (t : Ty) → Cased (optionOf t) 2 (bare ▸ holding t ▸ ∎)
 unfolding layout flatten flatCount reach
 option-cased t =
-    record { whole = refl; layouts = λ m. refl; flats = λ m. refl; counts = refl; inners = λ m. refl; reached = sym (noReach-join (joinReach (reach t) noReach) ∙ join-noReach (reach t)) }
+    record { whole = refl; layouts = λ m. refl; flats = λ m. refl; counts = refl; inners = λ m. refl; reached = ap deeper (sym (option-reach t)) }
 
 pub result-cased : (ok err : Case) → Cased (resultOf ok err) 2 (ok ▸ err ▸ ∎)
 unfolding layout despecialize reach
@@ -91,17 +92,17 @@ result-cased ok err =
       flats = λ m. sym (same-flat m (resultOf ok err));
       counts = sym (same-count (resultOf ok err));
       inners = λ m. sym (same-result m ok err);
-      reached = sym (same-reach (resultOf ok err));
+      reached = ap deeper (sym (result-reach ok err));
     }
 
 pub cased-row : {t : Ty} {n : ℕ} {cs : Cases} → Cased t n cs → (len : ℕ) →
     payloadsRow (rowKind t) (discriminant n) (foldCases addIfPayload noPayloads cs) ≡ rowLeaf (checked len (some t))
 cased-row {t} {n} {cs} c len =
     closed (rowKind t) n cs
-    ∙ fit-row t (λ m. variantLayout n (payloads m cs)) _ len (λ m. ap (layout m) (c .whole) ∙ c .layouts m) (λ h. words ∙ row-words t)
+    ∙ fit-row t (λ m. variantLayout n (payloads m cs)) (caseReach cs) _ len (c .reached) (λ m. ap (layout m) (c .whole) ∙ c .layouts m) (λ h. words ∙ row-words t)
   where
     words :
-        rowWords (rowKind t) (both (λ m. variantLayout n (payloads m cs))) (both (λ m. typeFlat m (variantOf cs))) (both (λ m. casesInner n (payloads m cs))) (caseReach cs)
+        rowWords (rowKind t) (both (λ m. variantLayout n (payloads m cs))) (both (λ m. typeFlat m (variantOf cs))) (both (λ m. casesInner n (payloads m cs))) (deeper (caseReach cs))
         ≡ rowWords (rowKind t) (both (λ m. layout m t)) (both (λ m. typeFlat m t)) (both (λ m. inner m t)) (reach t)
     words = simp (c .layouts, c .flats, c .counts, c .inners, c .reached)
 

@@ -1,6 +1,6 @@
 -- A definition at a place of the description is canon's `define` of the words there, and the next one stands after it, within the description.
 use mathlib.Core.Path.{_≡_, refl}
-use mathlib.Core.Bool.{Bool, true, false, cond, _||_}
+use mathlib.Core.Bool.{Bool, true, false, cond}
 use mathlib.Core.List.{List}
 use mathlib.Core.Option.{Option, none, some}
 use Prim.Native.Nat.{ℕ, _+_, _-_, _≤_, _<_}
@@ -10,13 +10,12 @@ use lib.Dec.{ltb}
 use lib.ListN.{length, getD, take, drop, length-drop}
 use lib.Seq.{getD-drop}
 use borrow.Author.Tests.{ltb-false, lt-ltb}
-use Rattle.canon.specs.Answer.{Leaf, is, no as refuses, truncated, badCount, tooLarge, andThen}
+use Rattle.canon.specs.Answer.{Leaf, is, no as refuses, truncated, badCount, andThen}
 use Rattle.canon.specs.Types.{Ty, Kind}
-use Rattle.canon.specs.Layout.{mem32, mem64}
 use Rattle.canon.specs.Row.{Info, rowOf}
-use Rattle.canon.specs.Description.{kindOf, isBadCount, typeOf, isTooLarge, Defined, checked, bodied, define}
+use Rattle.canon.specs.Description.{kindOf, isBadCount, typeOf, Defined, checked, bodied, define}
 use Rattle.canon.proofs.Tests.{impossible}
-use Rattle.canon.proofs.Built.{typeInfo}
+use Rattle.canon.proofs.Built.{checked-length, typeInfo}
 use Rattle.canon.specs.Description.{shapeOf, bodyLength}
 use Rattle.head.specs.Heads.{Heading, heading, bodyAt, headKind, headAt}
 use Rattle.head.proofs.Laws.{head-spans}
@@ -36,15 +35,12 @@ fromHead look ws l = andThen l (λ h. andThen (kindRow look ws h) (λ r. is (rec
 -- the row's answer with the place of the next
 with-next : (at n : ℕ) (o : Option Ty) →
     andThen (rowLeaf (checked n o)) (λ r. is (record { row = r; next = at + 1 + n })) ≡ definedLeaf at (checked n o)
-unfolding andThen checked
-with-next at n none = refl
-with-next at n (some t) = go (isTooLarge mem32 t || isTooLarge mem64 t)
+unfolding andThen
+with-next at n o = go (checked n o) refl
   where
-    go : (b : Bool) →
-        andThen (rowLeaf (cond b (refuses tooLarge) (is (record { type = t; length = n })))) (λ r. is (record { row = r; next = at + 1 + n }))
-        ≡ definedLeaf at (cond b (refuses tooLarge) (is (record { type = t; length = n })))
-    go true = refl
-    go false = refl
+    go : (l : Leaf Defined) → checked n o ≡ l → andThen (rowLeaf l) (λ r. is (record { row = r; next = at + 1 + n })) ≡ definedLeaf at l
+    go (is d) e = rw (checked-length n o d e)
+    go (refuses x) e = refl
 
 module _ (ts : List Ty) (ws : List ℕ) (at : ℕ) (there : at < length ws) where
   body : (k : Kind) → fromHead (typeInfo ts) ws (bodyAt k ws (at + 1)) ≡ definedLeaf at (bodied ts (some k) (drop (at + 1) ws))

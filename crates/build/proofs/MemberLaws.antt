@@ -1,4 +1,5 @@
--- Records and tuples: after any members the extents are canon's ends, the flat words those of the members' lists one after another, the borrow any of theirs.
+-- Records and tuples: after any members the extents are canon's ends, the flat words those of the members' lists one after another, the reach what
+-- they reach together.
 use mathlib.Core.Path.{_≡_, refl, ap, _∙_}
 use mathlib.Core.Option.{some}
 use Prim.Native.Nat.{ℕ}
@@ -36,11 +37,11 @@ after s (t ◂ us) =
     after (addMember s (infoOf t)) us
     ∙ rw (joinReach-assoc (s .reach) (reach t) (memberReach us))
 
--- closed: the record's size and alignment, its flat words, its borrow
+-- closed: the record's size and alignment, its flat words, what its members reach
 closed : (kind : ℕ) (us : Members) →
     membersRow kind (foldMembers addMember noMembers us)
-    ≡ fitRow (both (λ m. extentAt (recordSize (members m us)) (greatestAlign (members m us))))
-    (λ ls. rowWords kind ls (both (λ m. typeFlat m (recordOf us))) (both (λ m. noInner)) (memberReach us))
+    ≡ fitRow (both (λ m. extentAt (recordSize (members m us)) (greatestAlign (members m us)))) (memberReach us)
+    (λ ls. rowWords kind ls (both (λ m. typeFlat m (recordOf us))) (both (λ m. noInner)))
 unfolding membersRow pack
 closed kind us =
     ap (membersRow kind) (after noMembers us)
@@ -52,6 +53,6 @@ pub product-row : {k : Kind} {type : Members → Ty} → Product k type → (us 
     membersRow (rowKind (type us)) (foldMembers addMember noMembers us) ≡ rowLeaf (checked n (some (type us)))
 unfolding layout flatten flatCount reach
 product-row aRecord us n =
-    closed 1 us ∙ fit-row (recordOf us) (λ m. recordLayout (members m us)) _ n (λ m. refl) (λ h. row-words (recordOf us))
+    closed 1 us ∙ fit-row (recordOf us) (λ m. recordLayout (members m us)) (memberReach us) _ n refl (λ m. refl) (λ h. row-words (recordOf us))
 product-row aTuple us n =
-    closed 4 us ∙ fit-row (tupleOf us) (λ m. recordLayout (members m us)) _ n (λ m. refl) (λ h. row-words (tupleOf us))
+    closed 4 us ∙ fit-row (tupleOf us) (λ m. recordLayout (members m us)) (memberReach us) _ n refl (λ m. refl) (λ h. row-words (tupleOf us))

@@ -62,7 +62,7 @@ begins ws t =
     record {
       types = [];
       counted = refl;
-      sound = record { definitions = tt; fits = omega arith };
+      sound = record { passed = tt; fits = omega arith };
       held = refl;
       inside = omega arith;
       rest = ap (λ (r : ℕ). buildFrom r [] ws) (sub-zero (capacity (length t)));

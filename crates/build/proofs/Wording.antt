@@ -1,5 +1,5 @@
 -- Equal parts make equal rows.
-use mathlib.Core.Path.{_≡_}
+use mathlib.Core.Path.{_≡_, refl}
 use Prim.Native.Nat.{ℕ}
 use Rattle.canon.specs.Answer.{Leaf, is, no, andThen}
 use Rattle.canon.specs.Row as canon
@@ -24,8 +24,8 @@ flat-kept i = λ j. record { number = countWord-countOf (i .flat .count) j; type
 pub fit-same :
     {es es′ : Both Extent} {fs fs′ : Both Packed} {ns ns′ : Both Inner} {a b : Reach} (kind : ℕ) →
     es ≡ es′ → fs ≡ fs′ → ns ≡ ns′ → a ≡ b →
-    fitRow es (λ ls. rowWords kind ls fs ns a) ≡ fitRow es′ (λ ls. rowWords kind ls fs′ ns′ b)
-fit-same kind p q r s = λ i. fitRow (p i) (λ ls. rowWords kind ls (q i) (r i) (s i))
+    fitRow es a (λ ls. rowWords kind ls fs ns) ≡ fitRow es′ b (λ ls. rowWords kind ls fs′ ns′)
+fit-same kind p q r s = λ i. fitRow (p i) (s i) (λ ls. rowWords kind ls (q i) (r i))
 
 -- what a found reference does to the state, and what a bad one does
 pub one :
@@ -37,6 +37,12 @@ one f i l s s′ p q r = rw (← p, q, r)
 pub none-found : (f : Found) (l : Leaf canon.Info) (s : MembersIs) → foundMeans f ≡ l → f ≡ found.BadRef → andThen l (λ a. is (addMember s a)) ≡ no 4
 unfolding andThen
 none-found f l s p q = rw (← p, q)
+
+-- one after another, however they are grouped
+pub then-twice : {A B C : Type 0} (l : Leaf A) (f : A → Leaf B) (g : B → Leaf C) → andThen (andThen l f) g ≡ andThen l (λ a. andThen (f a) g)
+unfolding andThen
+then-twice (is a) f g = refl
+then-twice (no x) f g = refl
 
 -- an answer that was matched goes on
 pub then-is : {A B : Type 0} (l : Leaf A) (a : A) (k : A → Leaf B) → l ≡ is a → andThen l k ≡ k a

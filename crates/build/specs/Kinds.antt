@@ -7,26 +7,27 @@ use Rattle.canon.specs.Answer.{Leaf, is, mapOption, andThen}
 use Rattle.canon.specs.Layout.{Memory, both, within}
 use Rattle.canon.specs.Flat.{copies, flagsFlat}
 use Rattle.canon.specs.Row.{noInner, Info, rowWords, infoLayout}
-use Rattle.canon.specs.Reach.{noReach, joinReach}
+use Rattle.canon.specs.Reach.{noReach, joinReach, deeper}
 use Rattle.canon.specs.Types.{Kind, kRecord, kVariant, kList, kTuple, kMap, kFlags, kEnum, kOption, kResult, kFixed}
 use Rattle.types.specs.Extents.{startExtent, extentAt, memberOf, closeOf}
 use Rattle.types.specs.Leaves.{discriminantAnswer, flagsAnswer}
 use Rattle.types.specs.declared.extent.Step.{Step}
 use Rattle.flat_types.specs.Lists.{unpacked, packed, memoryWords}
+use Rattle.table.specs.Means.{deeperAnswer}
 use Rattle.head.specs.Heads.{Heading, headAt, between}
 use Rattle.build.specs.Steps.{caseLook, foldRefs, pairWords, fitRow, infoFlat, noMembers, addMember, membersRow, noPayloads, addPayload, addIfPayload, payloadsRow}
 
 unfoldable pub listRow : Info → Leaf (List ℕ)
-listRow i = is (pairWords 3 (both (λ m. noInner)) (i .reach))
+listRow i = andThen (deeperAnswer (i .reach)) (λ r. is (pairWords 3 (both (λ m. noInner)) r))
 
 unfoldable pub fixedRow : ℕ → Info → Leaf (List ℕ)
 fixedRow n i =
-    fitRow (both (λ m. extentAt (infoLayout m i .size * n) (infoLayout m i .align)))
-    (λ ls. rowWords 10 ls (both (λ m. packed (mapOption (copies n) (unpacked (memoryWords m (infoFlat i)))))) (both (λ m. noInner)) (i .reach))
+    fitRow (both (λ m. extentAt (infoLayout m i .size * n) (infoLayout m i .align))) (i .reach)
+    (λ ls. rowWords 10 ls (both (λ m. packed (mapOption (copies n) (unpacked (memoryWords m (infoFlat i)))))) (both (λ m. noInner)))
 
 unfoldable pub flagsRow : ℕ → Leaf (List ℕ)
 flagsRow n =
-    andThen (flagsAnswer n) (λ a. is (rowWords 6 (a .layouts) (both (λ m. packed (some (flagsFlat n)))) (both (λ m. noInner)) noReach))
+    andThen (flagsAnswer n) (λ a. is (rowWords 6 (a .layouts) (both (λ m. packed (some (flagsFlat n)))) (both (λ m. noInner)) (deeper noReach)))
 
 -- a variant's row, and a result's, by the kind's word
 unfoldable pub variantRow : ℕ → (ℕ → Leaf Info) → List ℕ → Leaf (List ℕ)
@@ -44,10 +45,8 @@ valueStep m k v = memberOf (memberOf startExtent (infoLayout m k) .extent) (info
 
 unfoldable pub entryRow : Info → Info → Leaf (List ℕ)
 entryRow k v =
-    fitRow (both (λ m. closeOf (valueStep m k v .extent)))
-    (λ ls. pairWords 5
-    (both (λ m. record { disc = 0; offset = valueStep m k v .start; entry = within m ls }))
-    (joinReach (k .reach) (v .reach)))
+    fitRow (both (λ m. closeOf (valueStep m k v .extent))) (joinReach (k .reach) (v .reach))
+    (λ ls. pairWords 5 (both (λ m. record { disc = 0; offset = valueStep m k v .start; entry = within m ls })))
 
 unfoldable pub mapRow : (ℕ → Leaf Info) → ℕ → ℕ → Leaf (List ℕ)
 mapRow look k v = andThen (look k) (λ a. andThen (look v) (λ b. entryRow a b))

@@ -11,7 +11,7 @@ use Rattle.flat_types.specs.Lists.{bothWords}
 use Rattle.flat_types.specs.declared.both.FlatTypes.{FlatTypes}
 use Rattle.table.specs.Means.{infoMeans, reachMeans, rowMeans}
 use Rattle.table.specs.declared.row.Inner.{Inner}
-use Rattle.build.specs.Steps.{pairOf, inEach, MembersIs, PayloadsIs}
+use Rattle.build.specs.Steps.{pairOf, inEach, LimitedIs, MembersIs, PayloadsIs}
 use Rattle.build.specs.Kinds.{DefinedIs}
 use Rattle.build.specs.declared.Built.{Built}
 use Rattle.build.specs.declared.Built.the-variants as built
@@ -19,6 +19,8 @@ use Rattle.build.specs.declared.reference.Payload.{Payload}
 use Rattle.build.specs.declared.reference.Payload.the-variants as payload
 use Rattle.build.specs.declared.row.Rowed.{Rowed}
 use Rattle.build.specs.declared.row.Rowed.the-variants as rowed
+use Rattle.build.specs.declared.row.Limited.{Limited}
+use Rattle.build.specs.declared.row.Limited.the-variants as limited
 use Rattle.build.specs.declared.members.Members.{Members}
 use Rattle.build.specs.declared.cases.Payloads.{Payloads}
 use Rattle.build.specs.declared.cases.Joined.{Joined}
@@ -44,6 +46,10 @@ payloadMeans payload.BadRef = no badRef
 abbrev pub rowedMeans : Rowed → Leaf (List ℕ)
 rowedMeans (rowed.Row r) = is (rowMeans r)
 rowedMeans (rowed.Refused x) = no (numberOf x)
+
+abbrev pub limitedMeans : Limited → Leaf LimitedIs
+limitedMeans (limited.Within ls r) = is (record { layouts = layoutsMeans ls; reach = reachMeans r })
+limitedMeans (limited.Refused x) = no (numberOf x)
 
 abbrev pub flatMeans : FlatTypes → Both Packed
 flatMeans f = inEach (bothWords f)

@@ -17,6 +17,7 @@ use Rattle.types.specs.Extents.{startExtent, memberOf, closeOf, variantStep, wi
 use Rattle.types.specs.declared.extent.Extent.{Extent}
 use Rattle.flat_types.specs.Lists.{whole, memoryWords}
 use Rattle.flat_types.specs.Places.{appendTo, oneI32, joined}
+use Rattle.table.specs.Means.{deeperAnswer}
 use Rattle.table.specs.Rows.{rowIn}
 
 -- References
@@ -47,9 +48,18 @@ pairWords kind ns reached =
     (pairOf (record { number = 2; types = 0 }) (record { number = 2; types = 5 }))
     ns reached
 
--- of closed extents, where both memories can hold them
-unfoldable pub fitRow : Both Extent → (Both Layout → List ℕ) → Leaf (List ℕ)
-fitRow es k = andThen (fittedOf es) (λ ls. is (k ls))
+-- what a definition is within the limits of depth and size
+pub record LimitedIs : Type 0 where
+  pub layouts : Both Layout
+  pub reach : Reach
+
+-- of closed extents, by what the references reach: "TooDeep, TooLarge"
+unfoldable pub limitedOf : Both Extent → Reach → Leaf LimitedIs
+limitedOf es parts = andThen (deeperAnswer parts) (λ r. andThen (fittedOf es) (λ ls. is (record { layouts = ls; reach = r })))
+
+-- and its row
+unfoldable pub fitRow : Both Extent → Reach → (Both Layout → Reach → List ℕ) → Leaf (List ℕ)
+fitRow es parts k = andThen (limitedOf es parts) (λ c. is (k (c .layouts) (c .reach)))
 
 -- the flat words of an info, both memories' in one number
 abbrev pub infoFlat : Info → Packed
@@ -82,7 +92,7 @@ addMember s i =
 
 unfoldable pub membersRow : ℕ → MembersIs → Leaf (List ℕ)
 membersRow kind s =
-    fitRow (both (λ m. closeOf (within m (s .extents)))) (λ ls. rowWords kind ls (inEach (s .flat)) (both (λ m. noInner)) (s .reach))
+    fitRow (both (λ m. closeOf (within m (s .extents)))) (s .reach) (λ ls. rowWords kind ls (inEach (s .flat)) (both (λ m. noInner)))
 
 -- Payloads
 
@@ -108,8 +118,7 @@ addIfPayload s (some i) = addPayload s i
 
 unfoldable pub payloadsRow : ℕ → ℕ → PayloadsIs → Leaf (List ℕ)
 payloadsRow kind d s =
-    fitRow (both (λ m. variantStep d (within m (s .layouts)) .extent))
+    fitRow (both (λ m. variantStep d (within m (s .layouts)) .extent)) (s .reach)
     (λ ls. rowWords kind ls
     (inEach (appendTo 16 oneI32 (s .flat)))
-    (both (λ m. record { disc = d; offset = variantStep d (within m (s .layouts)) .start; entry = noLayout }))
-    (s .reach))
+    (both (λ m. record { disc = d; offset = variantStep d (within m (s .layouts)) .start; entry = noLayout })))

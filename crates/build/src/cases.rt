@@ -83,7 +83,7 @@ impl Payloads {
     {
         let layouts = self.layouts;
         let flat = self.flat;
-        let reach = self.reach;
+        let parts = self.reach;
         let step = Extents::variant(size, layouts);
         let extents = step.extents;
         let inner = Inner {
@@ -92,7 +92,7 @@ impl Payloads {
             offset64: step.start64 as u32,
             entries: NO_LAYOUTS,
         };
-        fit_row(kind, extents, flat.with_discriminant(), inner, reach)
+        fit_row(kind, extents, flat.with_discriminant(), inner, parts)
     }
 }
 

@@ -40,7 +40,7 @@ impl Built {
 }
 
 // Writes a row for each definition, up to the first that is refused. Refuses TooLong for the description, then for each definition NoRoom,
-// BadKind, Truncated, BadCount, BadRef, TooLarge.
+// BadKind, Truncated, BadCount, BadRef, TooDeep, TooLarge.
 pub fn build(words: &[u32], table: &mut [u32]) -> Built
     ensures { λ r. ⌜ (builtMeans r ≡ buildAnswer (now (words .entry)) (now (table .entry))) × (now (table .exit) ≡ tableAfter (now (words .entry)) (now (table .entry))) ⌝ }
 {

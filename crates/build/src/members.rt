@@ -8,10 +8,12 @@ ghost use Rattle.build.specs.Means.{membersMeans, rowedMeans};
 ghost use Rattle.build.specs.Steps.{noMembers, addMember, membersRow, memberLook, foldRefs};
 ghost use Rattle.build.specs.Kinds.{entryRow, mapRow};
 use crate::reference::member_at;
+use crate::row::Limited;
 use crate::row::NO_INNER;
 use crate::row::Rowed;
 use crate::row::fit_row;
 use crate::row::pair_row;
+use crate::row::within_limits;
 use flat_types::FlatTypes;
 use head::MAP;
 use table::DefinitionIndex;
@@ -20,7 +22,6 @@ use table::Info;
 use table::Inner;
 use table::Reach;
 use types::Extents;
-use types::Fitted;
 use types::Refusal;
 
 struct Members {
@@ -63,8 +64,8 @@ impl Members {
     {
         let extents = self.extents;
         let flat = self.flat;
-        let reach = self.reach;
-        fit_row(kind, extents.close(), flat, NO_INNER, reach)
+        let parts = self.reach;
+        fit_row(kind, extents.close(), flat, NO_INNER, parts)
     }
 }
 
@@ -104,16 +105,16 @@ fn entry_row(key: Info, value: Info) -> Rowed
     let extents = first.extents;
     let second = extents.member(value_layouts);
     let extents = second.extents;
-    match extents.close().fitted() {
-        Fitted::TooLarge => Rowed::Refused(Refusal::TooLarge),
-        Fitted::Layouts(entries) => {
+    match within_limits(extents.close(), key_reach.join(value_reach)) {
+        Limited::Refused(why) => Rowed::Refused(why),
+        Limited::Within(entries, reach) => {
             let inner = Inner {
                 discriminant: 0,
                 offset32: second.start32 as u32,
                 offset64: second.start64 as u32,
                 entries,
             };
-            pair_row(MAP, inner, key_reach.join(value_reach))
+            pair_row(MAP, inner, reach)
         }
     }
 }

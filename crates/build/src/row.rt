@@ -1,12 +1,13 @@
-// Makes the row of a definition, where both memories can hold it.
+// Makes the row of a definition that is not too deep, where both memories can hold it.
 ghost use mathlib.Core.Path.{_≡_};
 ghost use Rattle.canon.specs.Answer.{is};
 ghost use Rattle.canon.specs.Row.{rowWords};
 ghost use Rattle.types.specs.Means.{layoutsMeans, extentsMeans};
 ghost use Rattle.table.specs.Means.{reachMeans};
-ghost use Rattle.build.specs.Means.{rowedMeans, flatMeans, innerMeans};
-ghost use Rattle.build.specs.Steps.{fitRow, pairWords};
+ghost use Rattle.build.specs.Means.{rowedMeans, limitedMeans, flatMeans, innerMeans};
+ghost use Rattle.build.specs.Steps.{limitedOf, fitRow, pairWords};
 use flat_types::FlatTypes;
+use table::Deeper;
 use table::Info;
 use table::Inner;
 use table::NO_LAYOUTS;
@@ -20,6 +21,12 @@ use types::Refusal;
 
 pub(crate) enum Rowed {
     Row(Row),
+    Refused(Refusal),
+}
+
+// What a definition is within the limits of depth and size: its layouts and what it reaches.
+pub(crate) enum Limited {
+    Within(Layouts, Reach),
     Refused(Refusal),
 }
 
@@ -39,7 +46,6 @@ pub(crate) fn pair_row(kind: u32, inner: Inner, reach: Reach) -> Rowed
     row_of(kind, layouts, FlatTypes::POINTER_PAIR, inner, reach)
 }
 
-// Joined with nothing, whatever word was read becomes a good word 15.
 pub(crate) fn row_of(
     kind: u32,
     layouts: Layouts,
@@ -52,23 +58,35 @@ pub(crate) fn row_of(
     let info = Info {
         layouts,
         flat,
-        reach: Reach::NONE.join(reach),
+        reach,
     };
     Rowed::Row(Row { kind, info, inner })
 }
 
-// Refuses TooLarge where a memory cannot hold it.
+// Makes the last two tests of a definition. Refuses TooDeep, by what its references reach, then TooLarge where a memory cannot hold it.
+pub(crate) fn within_limits(extents: Extents, parts: Reach) -> Limited
+    ensures { λ r. ⌜ limitedMeans r ≡ limitedOf (extentsMeans extents) (reachMeans parts) ⌝ }
+{
+    match parts.deeper() {
+        Deeper::TooDeep => Limited::Refused(Refusal::TooDeep),
+        Deeper::Reach(reach) => match extents.fitted() {
+            Fitted::TooLarge => Limited::Refused(Refusal::TooLarge),
+            Fitted::Layouts(layouts) => Limited::Within(layouts, reach),
+        },
+    }
+}
+
 pub(crate) fn fit_row(
     kind: u32,
     extents: Extents,
     flat: FlatTypes,
     inner: Inner,
-    reach: Reach,
+    parts: Reach,
 ) -> Rowed
-    ensures { λ r. ⌜ rowedMeans r ≡ fitRow (extentsMeans extents) (λ ls. rowWords kind ls (flatMeans flat) (innerMeans inner) (reachMeans reach)) ⌝ }
+    ensures { λ r. ⌜ rowedMeans r ≡ fitRow (extentsMeans extents) (reachMeans parts) (λ ls. rowWords kind ls (flatMeans flat) (innerMeans inner)) ⌝ }
 {
-    match extents.fitted() {
-        Fitted::TooLarge => Rowed::Refused(Refusal::TooLarge),
-        Fitted::Layouts(layouts) => row_of(kind, layouts, flat, inner, reach),
+    match within_limits(extents, parts) {
+        Limited::Refused(why) => Rowed::Refused(why),
+        Limited::Within(layouts, reach) => row_of(kind, layouts, flat, inner, reach),
     }
 }

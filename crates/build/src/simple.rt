@@ -16,6 +16,7 @@ use flat_types::FlatTypes;
 use head::FIXED_LENGTH_LIST;
 use head::FLAGS;
 use head::LIST;
+use table::Deeper;
 use table::DefinitionIndex;
 use table::Found;
 use table::Reach;
@@ -30,8 +31,11 @@ pub(crate) fn list_row(words: &[u32], first: usize, table: &[u32], index: Defini
     match member_at(table, index, words[first]) {
         Found::BadRef => Rowed::Refused(Refusal::BadRef),
         Found::Info(element) => {
-            let reach = element.reach;
-            pair_row(LIST, NO_INNER, reach)
+            let parts = element.reach;
+            match parts.deeper() {
+                Deeper::TooDeep => Rowed::Refused(Refusal::TooDeep),
+                Deeper::Reach(reach) => pair_row(LIST, NO_INNER, reach),
+            }
         }
     }
 }
@@ -46,13 +50,13 @@ pub(crate) fn fixed_row(words: &[u32], first: usize, table: &[u32], index: Defin
         Found::Info(element) => {
             let layouts = element.layouts;
             let flat = element.flat;
-            let reach = element.reach;
+            let parts = element.reach;
             fit_row(
                 FIXED_LENGTH_LIST,
                 layouts.repeat(count),
                 flat.repeat(count),
                 NO_INNER,
-                reach,
+                parts,
             )
         }
     }
@@ -70,7 +74,7 @@ pub(crate) fn flags_row(count: u32) -> Rowed
                 layouts,
                 FlatTypes::flags(count),
                 NO_INNER,
-                Reach::NONE,
+                Reach::DEFINITION,
             )
         }
     }

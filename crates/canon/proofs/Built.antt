@@ -8,9 +8,10 @@ use native.Mathlib.Omega.{arith}
 use lib.Dec.{leb, ltb}
 use lib.ListN.{length, getD, take, drop, getElem?, length-map, length-append}
 use borrow.Author.Tests.{ltb-true, ltb-false}
-use Rattle.canon.specs.Answer.{Leaf, is, no as refuses, mapOption, mapOption2, badRef, tooLarge}
+use Rattle.canon.specs.Answer.{Leaf, is, no as refuses, mapOption, mapOption2, badRef, tooLarge, tooDeep}
 use Rattle.canon.specs.Types.{Ty, recordOf, variantOf, listOf, tupleOf, mapOf, flagsOf, enumOf, optionOf, resultOf, fixedOf, plain, Kind, kRecord, kVariant, kList, kTuple, kMap, kFlags, kEnum, kOption, kResult, kFixed}
 use Rattle.canon.specs.Layout.{mem32, mem64}
+use Rattle.canon.specs.Reach.{reach, depth, deepest, isTooDeep}
 use Rattle.canon.specs.Row.{Info, rowOf}
 use Rattle.canon.specs.Table.{capacity, cellsFrom, rowAt, putRows}
 use Rattle.canon.specs.Description.{reference, caseOf, membersOf, casesOf, kindOf, shapeOf, bodyLength, isBadCount, typeOf, isTooLarge, Defined, checked, bodied, define, follow, buildFrom, build, built, mostWords, tableAfter}
@@ -21,7 +22,12 @@ use Rattle.canon.proofs.Cells.{room-fits, length-putRows, row-at}
 use Rattle.canon.proofs.Rows.{Definition, row-good, row-back}
 use Rattle.canon.specs.Placement.{Every}
 
--- What a description accepts is a definition
+-- What a description accepts is a definition, neither too deep nor too large
+
+pub record Accepted (t : Ty) : Type 0 where
+  pub definition : Definition t
+  pub shallow : depth t ≤ deepest
+  pub fits : isTooLarge mem32 t || isTooLarge mem64 t ≡ false
 
 lifted : {A : Type 0} (f : A → Ty) (o : Option A) (t : Ty) → ((a : A) → Definition (f a)) → mapOption f o ≡ some t → Definition t
 lifted f none t d e = impossible (cc)
@@ -45,35 +51,42 @@ typeOf-definition ts kResult b t e = lifted2 resultOf (caseOf ts (getD b 0 0)) (
 typeOf-definition ts kFixed b t e = lifted (λ a. fixedOf a (getD b 1 0)) (reference ts (getD b 0 0)) t (λ a. omega arith) e
 
 -- what is defined behind a test passed it
-pub passed-test : (b : Bool) (x : ℕ) (l : Leaf Defined) (d : Defined) → cond b (refuses x) l ≡ is d → (b ≡ false) × (l ≡ is d)
+passed-test : (b : Bool) (x : ℕ) (l : Leaf Defined) (d : Defined) → cond b (refuses x) l ≡ is d → (b ≡ false) × (l ≡ is d)
 passed-test true x l d e = absurd (impossible (cc))
 passed-test false x l d e = (refl, e)
 
-checked-definition : (ts : List Ty) (k : Kind) (b : List ℕ) (n : ℕ) (o : Option Ty) (d : Defined) → typeOf ts k b ≡ o → checked n o ≡ is d → Definition (d .type)
+-- what comes through the last tests is neither too deep nor too large, and is the type that was tested, of the body's length
+checked-is :
+    (n : ℕ) (t : Ty) (d : Defined) → checked n (some t) ≡ is d →
+    (isTooDeep (reach t) ≡ false) × (isTooLarge mem32 t || isTooLarge mem64 t ≡ false) × (record { type = t; length = n } ≡ d)
 unfolding checked
-checked-definition ts k b n none d e h = impossible (cc)
-checked-definition ts k b n (some t) d e h =
-    let p : _≡_ {A = Leaf Defined} (is (record { type = t; length = n })) (is d) = passed-test (isTooLarge mem32 t || isTooLarge mem64 t) tooLarge _ d h .1 in
-    let q : record { type = t; length = n } ≡ d = cc in
-    let r : t ≡ d .type = ap (λ (x : Defined). x .type) q in
-    rw (← r) (typeOf-definition ts k b t e)
+checked-is n t d h =
+    let deep = passed-test (isTooDeep (reach t)) tooDeep _ d h in
+    let large = passed-test (isTooLarge mem32 t || isTooLarge mem64 t) tooLarge (is (record { type = t; length = n })) d (deep .1) in
+    let same = large .1 in
+    (deep .0, large .0, cc)
 
-define-definition : (ts : List Ty) (o : Option Kind) (ws : List ℕ) (d : Defined) → bodied ts o ws ≡ is d → Definition (d .type)
+checked-accepted : (ts : List Ty) (k : Kind) (b : List ℕ) (n : ℕ) (o : Option Ty) (d : Defined) → typeOf ts k b ≡ o → checked n o ≡ is d → Accepted (d .type)
+unfolding checked isTooDeep
+checked-accepted ts k b n none d e h = impossible (cc)
+checked-accepted ts k b n (some t) d e h =
+    let c = checked-is n t d h in
+    let r : t ≡ d .type = ap (λ (x : Defined). x .type) (c .2) in
+    rw (← r) (record { definition = typeOf-definition ts k b t e; shallow = ltb-false deepest (depth t) (c .0); fits = c .1 })
+
+define-accepted : (ts : List Ty) (o : Option Kind) (ws : List ℕ) (d : Defined) → bodied ts o ws ≡ is d → Accepted (d .type)
 unfolding bodied
-define-definition ts none ws d h = impossible (cc)
-define-definition ts (some k) ws d h =
-    checked-definition ts k (take (bodyLength (shapeOf k) (getD ws 0 0)) ws) (bodyLength (shapeOf k) (getD ws 0 0)) _ d refl
+define-accepted ts none ws d h = impossible (cc)
+define-accepted ts (some k) ws d h =
+    checked-accepted ts k (take (bodyLength (shapeOf k) (getD ws 0 0)) ws) (bodyLength (shapeOf k) (getD ws 0 0)) _ d refl
     (passed-test (isBadCount k (getD ws 0 0)) _ _ d (passed-test (ltb (length ws) (bodyLength (shapeOf k) (getD ws 0 0))) _ _ d h .1) .1)
 
 -- it has a word at least after its kind word
 
-checked-length : (n : ℕ) (o : Option Ty) (d : Defined) → checked n o ≡ is d → n ≡ d .length
+pub checked-length : (n : ℕ) (o : Option Ty) (d : Defined) → checked n o ≡ is d → n ≡ d .length
 unfolding checked
 checked-length n none d h = impossible (cc)
-checked-length n (some t) d h =
-    let p : _≡_ {A = Leaf Defined} (is (record { type = t; length = n })) (is d) = passed-test (isTooLarge mem32 t || isTooLarge mem64 t) tooLarge _ d h .1 in
-    let q : record { type = t; length = n } ≡ d = cc in
-    ap (λ (x : Defined). x .length) q
+checked-length n (some t) d h = ap (λ (x : Defined). x .length) (checked-is n t d h .2)
 
 pub define-some : (ts : List Ty) (o : Option Kind) (ws : List ℕ) (d : Defined) → bodied ts o ws ≡ is d → 1 ≤ d .length
 unfolding bodied
@@ -105,31 +118,31 @@ build-keeps P step (suc room) ts (w ∷ ws) h =
     go (is d) e more = more (ts ++ d .type ∷ []) (drop (d .length) ws) (step room ts w ws d e h)
     go (refuses x) e more = (suc room, h)
 
-pub every-snoc : (P : Ty → Type 0) (ts : List Ty) (t : Ty) → Every P ts → P t → Every P (ts ++ t ∷ [])
+every-snoc : (P : Ty → Type 0) (ts : List Ty) (t : Ty) → Every P ts → P t → Every P (ts ++ t ∷ [])
 every-snoc P [] t v d = (d, tt)
 every-snoc P (u ∷ ts) t v d = (v .0, every-snoc P ts t (v .1) d)
 
--- definitions, and as many as there is room for at most
+-- accepted types, and no more than there is room for
 pub record Sound (room : ℕ) (ts : List Ty) : Type 0 where
-  pub definitions : Every Definition ts
+  pub passed : Every Accepted ts
   pub fits : length ts ≤ room
 
 abbrev pub Keeps : ℕ → ℕ → List Ty → Type 0
-Keeps room left ts = Every Definition ts × (left + length ts ≤ room)
+Keeps room left ts = Every Accepted ts × (left + length ts ≤ room)
 
 pub keeps-step : (room left : ℕ) (ts : List Ty) (w : ℕ) (ws : List ℕ) (d : Defined) → define ts w ws ≡ is d → Keeps room (suc left) ts → Keeps room left (ts ++ d .type ∷ [])
 keeps-step room left ts w ws d e h =
-    (every-snoc Definition ts (d .type) (h .0) (define-definition ts (kindOf w) ws d e), omega (arith, length-append ts (d .type ∷ [])))
+    (every-snoc Accepted ts (d .type) (h .0) (define-accepted ts (kindOf w) ws d e), omega (arith, length-append ts (d .type ∷ [])))
 
 pub built-sound : (ws t : List ℕ) → Sound (capacity (length t)) (built ws t .types)
 unfolding build
 built-sound ws t = go (capacity (length t)) (ltb mostWords (length ws))
   where
     go : (room : ℕ) (b : Bool) → Sound room (cond b (record { types = []; stopped = some 1 }) (buildFrom room [] ws) .types)
-    go room true = record { definitions = tt; fits = omega arith }
+    go room true = record { passed = tt; fits = omega arith }
     go room false =
         let r = build-keeps (Keeps room) (keeps-step room) room [] ws (tt, omega arith) in
-        record { definitions = r .1 .0; fits = omega (arith, r .1 .1) }
+        record { passed = r .1 .0; fits = omega (arith, r .1 .1) }
 
 -- The rows read back
 
@@ -143,14 +156,14 @@ pub record At (ts : List Ty) (j : ℕ) : Type 0 where
   pub type : Ty
   pub found : getElem? ts j ≡ some type
   pub row : getD (map rowOf ts) j [] ≡ rowOf type
-  pub definition : Definition type
+  pub passed : Accepted type
 
-pub type-at : (ts : List Ty) (j : ℕ) → Every Definition ts → j < length ts → At ts j
+pub type-at : (ts : List Ty) (j : ℕ) → Every Accepted ts → j < length ts → At ts j
 type-at [] j w h = absurd (omega arith)
-type-at (t ∷ ts) zero w h = record { type = t; found = refl; row = refl; definition = w .0 }
+type-at (t ∷ ts) zero w h = record { type = t; found = refl; row = refl; passed = w .0 }
 type-at (t ∷ ts) (suc j) w h =
     let r = type-at ts j (w .1) (omega arith) in
-    record { type = r .type; found = r .found; row = r .row; definition = r .definition }
+    record { type = r .type; found = r .found; row = r .row; passed = r .passed }
 
 found-take : (ts : List Ty) (n j : ℕ) → j < n → getElem? (take n ts) j ≡ getElem? ts j
 found-take [] zero j h = absurd (omega arith)
@@ -183,12 +196,12 @@ row-read : (ts : List Ty) (t : List ℕ) (j : ℕ) (room : ℕ) → Sound room t
     readRow (cellsFrom room (putRows room 0 (map rowOf ts) t) j 0 16) ≡ plainInfo (getElem? ts j)
 unfolding readRow plainInfo
 row-read ts t j room s fits h =
-    let r = type-at ts j (s .definitions) h in
+    let r = type-at ts j (s .passed) h in
     rw (
       row-at room (length t) (map rowOf ts) t j fits (every-sixteen ts) (omega (arith, length-map ts rowOf, s .fits)) refl (omega (arith, length-map ts rowOf)),
       r .row,
       r .found,
-      row-good (r .type) (r .definition),
+      row-good (r .type) (r .passed .definition) (r .passed .shallow),
       row-back (r .type),
     )
 

@@ -17,7 +17,7 @@ use Rattle.canon.specs.Row.{Info, rowOf, word}
 use Rattle.canon.specs.Table.{capacity, place, cell, cellsFrom, rowAt, putRows, column}
 use Rattle.canon.specs.Description.{built, tableAfter}
 use Rattle.canon.specs.Layout.{Memory}
-use Rattle.canon.specs.Question.{read, infos, tooMany, noTable, ask, askTwo, typeAnswer, layoutsIn, placed, placing, reachAll, borrowAnswer}
+use Rattle.canon.specs.Question.{read, infos, tooMany, noTable, ask, askTwo, typeAnswer, layoutsIn, placed, placing, anyBorrow, borrowAnswer}
 use Rattle.canon.specs.Signature.{Side, flatAll, atMost, flattenAnswer, startOf, asyncStartAnswer, returnOf, asyncReturnAnswer}
 use Rattle.canon.specs.Before.{oldRowAt, oldPutRows, SameRows, Turned, oldTableAfter, oldNoTable, oldRead, oldAsk, oldAskTwo, oldTypeAnswer}
 use Rattle.canon.proofs.Cells.{room-fits, rows-there, length-putRows, row-at, rows-after, cell-of}
@@ -118,9 +118,9 @@ module _ (n : ℕ) (u t : List ℕ) (same : SameRows n u t) where
   unfolding flattenAnswer
   flatten-before m max ws = ask-before (ltb 16 max) false ws (λ is′. ok (atMost max (flatAll m is′)))
 
-  pub borrow-before : (ws : List ℕ) → borrowAnswer u n ws ≡ oldAsk t n false false ws (λ is′. ok (reachAll is′ .borrow))
+  pub borrow-before : (ws : List ℕ) → borrowAnswer u n ws ≡ oldAsk t n false false ws (λ is′. ok (anyBorrow is′))
   unfolding borrowAnswer
-  borrow-before ws = ask-before false false ws (λ is′. ok (reachAll is′ .borrow))
+  borrow-before ws = ask-before false false ws (λ is′. ok (anyBorrow is′))
 
   pub start-before :
       (lower : Side) (vs : List ℕ) (lift : Side) (ws : List ℕ) →

@@ -1,14 +1,16 @@
--- The standard's despecialize changes neither layout nor flat list nor flat count nor what is reached: an enum of n is a variant of n bare cases,
--- option and result are variants of two cases, a tuple is a record, a map the list of its entries.
+-- The standard's despecialize changes neither layout nor flat list nor flat count: an enum of n is a variant of n bare cases, option and result
+-- are variants of two cases, a tuple is a record, a map the list of its entries. Nor does it change what is reached, but for the depth of a map.
 use mathlib.Core.Path.{_≡_, refl, ap, _∙_}
+use mathlib.Core.Bool.{cond}
 use mathlib.Core.List.{List, [], _++_, append-nil}
 use mathlib.Core.Option.{Option}
 use Prim.Native.Nat.{ℕ, zero, suc}
-use Rattle.canon.specs.Types.{Ty, scalar, string, recordOf, variantOf, listOf, tupleOf, mapOf, flagsOf, enumOf, optionOf, resultOf, fixedOf, Members, ∅, _◂_, Case, bare, holding, Cases, ∎, _▸_, count, Core}
+use lib.Dec.{eqb}
+use Rattle.canon.specs.Types.{Ty, scalar, string, recordOf, variantOf, listOf, tupleOf, mapOf, flagsOf, enumOf, optionOf, resultOf, fixedOf, Members, ∅, _◂_, Case, bare, holding, Cases, ∎, _▸_, count, Core, kMap, kindWord}
 use Rattle.canon.specs.Layout.{Memory, Layout, layout, payload, payloads, variantLayout}
 use Rattle.canon.specs.Flat.{flatten, payloadFlat, payloadFlats, variantFlat, flatCount, payloadCount, payloadCounts, variantCount}
-use Rattle.canon.specs.Reach.{noReach, joinReach, reach, payloadReach, caseReach}
-use Rattle.canon.specs.Row.{inner, casesInner}
+use Rattle.canon.specs.Reach.{Reach, noReach, joinReach, deeper, reach, payloadReach, caseReach}
+use Rattle.canon.specs.Row.{rowKind, inner, casesInner}
 use Rattle.canon.proofs.Reaches.{noReach-join, join-noReach}
 
 abbrev pub bareCases : ℕ → Cases
@@ -101,12 +103,31 @@ same-count =
     unchanged flatCount (λ ts. refl) (λ k v. refl) (λ n. ap variantCount (payloadCounts-bare n)) (λ t. refl)
     (λ ok err. ap (λ (l : List (Option ℕ)). variantCount (payloadCount ok ++ l)) (append-nil (payloadCount err)))
 
-pub same-reach : (t : Ty) → reach (despecialize t) ≡ reach t
-unfolding reach
-same-reach =
-    unchanged reach (λ ts. refl) (λ k v. ap (joinReach (reach k)) (join-noReach (reach v))) caseReach-bare
-    (λ t. noReach-join (joinReach (reach t) noReach) ∙ join-noReach (reach t))
-    (λ ok err. ap (joinReach (payloadReach ok)) (join-noReach (payloadReach err)))
+-- of the cases that option and result stand for
+
+pub option-reach : (t : Ty) → caseReach (bare ▸ holding t ▸ ∎) ≡ reach t
+unfolding caseReach
+option-reach t = noReach-join (joinReach (reach t) noReach) ∙ join-noReach (reach t)
+
+pub result-reach : (ok err : Case) → caseReach (ok ▸ err ▸ ∎) ≡ joinReach (payloadReach ok) (payloadReach err)
+unfolding caseReach
+result-reach ok err = ap (joinReach (payloadReach ok)) (join-noReach (payloadReach err))
+
+-- a map's list of entries is a definition deeper than the map
+pub same-reach : (t : Ty) → reach (despecialize t) ≡ cond (eqb (rowKind t) (kindWord kMap)) (deeper (reach t)) (reach t)
+unfolding despecialize reach
+same-reach (scalar s) = refl
+same-reach string = refl
+same-reach (recordOf ts) = refl
+same-reach (variantOf cs) = refl
+same-reach (listOf t) = refl
+same-reach (tupleOf ts) = refl
+same-reach (mapOf k v) = ap (λ (r : Reach). deeper (deeper (joinReach (reach k) r))) (join-noReach (reach v))
+same-reach (flagsOf n) = refl
+same-reach (enumOf n) = ap deeper (caseReach-bare n)
+same-reach (optionOf t) = ap deeper (option-reach t)
+same-reach (resultOf ok err) = ap deeper (result-reach ok err)
+same-reach (fixedOf t n) = refl
 
 -- the words 8 to 14 of a row: a variant's of the variant that the kind stands for, a map's entry of the tuple
 pub same-enum : (m : Memory) (n : ℕ) → inner m (despecialize (enumOf n)) ≡ inner m (enumOf n)

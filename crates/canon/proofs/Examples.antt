@@ -1,18 +1,18 @@
--- The worked examples of document 01, and of order 4, as one list under one theorem: words in, the papers' numbers out, through the meaning
--- of descriptions and questions that the promises cite.
+-- The worked examples of document 01 and of order 4, with depths by order 5's rule, as one list under one theorem: words in, the papers' numbers
+-- out, through the meaning of descriptions and questions that the promises cite. How deep lists may go, in a longer table, is a theorem beside it.
 use mathlib.Core.Path.{_≡_, refl}
 use mathlib.Core.Bool.{true, false}
 use mathlib.Core.List.{List, [], _∷_, _++_, map}
-use Prim.Native.Nat.{ℕ, _+_, _-_}
+use Prim.Native.Nat.{ℕ, zero, suc, _+_, _-_}
 use lib.ListN.{replicate}
 use Rattle.canon.specs.Answer.{Answer, ok, refused, atPosition, then, unless}
 use Rattle.canon.specs.Layout.{Memory, mem32, mem64, greatestAlign, starts, ends, lastEnd, recordSize, greatestSize, payloadOffset, variantSize, layout, numbers, roundUp}
 use Rattle.canon.specs.Flat.{joinLists, joinAll, concat, copies, flatten, addFlat, maxFlat, timesFlat, sumFlat, greatestFlat, flatCount}
-use Rattle.canon.specs.Reach.{joinReach, reachWord, wordReach, goodReach, reach}
+use Rattle.canon.specs.Reach.{joinReach, deeper, reachWord, wordReach, goodReach, reach, isTooDeep}
 use Rattle.canon.specs.Pack.{code, pack, unpack}
 use Rattle.canon.specs.Row.{Info, countWord, word, rowOf, flatOf, isAlignment, goodLayout, goodCount, unusedZero, goodAbi, isDiscriminant, isGood}
 use Rattle.canon.specs.Table.{capacity, place, cell, cellsFrom, rowAt, putFrom, putRows}
-use Rattle.canon.specs.Description.{reference, caseOf, membersOf, casesOf, kindOf, typeOf, isTooLarge, checked, bodied, buildFrom, build, buildAnswer, tableAfter}
+use Rattle.canon.specs.Description.{reference, mark, caseOf, membersOf, casesOf, kindOf, typeOf, isTooLarge, checked, bodied, buildFrom, build, buildAnswer, tableAfter}
 use Rattle.canon.specs.Question.{plainInfo, readRow, read, infos, noTable, ask, askTwo, typeAnswer, firstOver, orSize, refusedAt, judged, placed, placing}
 use Rattle.canon.specs.Signature.{Flattened, listed, inMemory, flatAll, atMost, flattenAnswer, Side, Signature, orPointer, startOf, asyncStartAnswer, behindPointer, returned, returnOf, asyncReturnAnswer}
 
@@ -22,6 +22,8 @@ pub data Query : Type 0 where
   numbersOf : Query
   -- where the payload stands, for 32 and 64
   payloadOf : Query
+  -- word 15 of its row; the depth
+  depthOf : Query
   flatListOf : Memory → Query
   -- the offsets of these references, then size and alignment
   placesOf : Memory → List ℕ → Query
@@ -56,6 +58,7 @@ bothCodes s = map code (s .params) ++ map code (s .results)
 abbrev question : List ℕ → ℕ → Query → Answer (List ℕ)
 question t n numbersOf = then (typeAnswer t n (last n)) (λ i. ok (numbersIn i))
 question t n payloadOf = ok (word (rowAt t (n - 1)) 9 ∷ word (rowAt t (n - 1)) 10 ∷ [])
+question t n depthOf = then (typeAnswer t n (last n)) (λ i. ok (word (rowAt t (n - 1)) 15 ∷ i .reach .depth ∷ []))
 question t n (flatListOf m) = then (flattenAnswer m 16 t n (last n ∷ [])) (λ f. ok (codes f))
 question t n (placesOf m ws) = then (placing m t n ws 16) (λ p. ok (p .offsets ++ p .layout .size ∷ p .layout .align ∷ []))
 question t n (startOfCall a vs b ws) = then (asyncStartAnswer t n a vs b ws) (λ s. ok (bothCodes s))
@@ -133,6 +136,13 @@ examples =
     -- P12 option of U8 fixed at 4294967294, at 4294967295
     ∷ on (10 ∷ 2 ∷ 4294967294 ∷ 8 ∷ 64 ∷ []) numbersOf (ok (4294967295 ∷ 1 ∷ 4294967295 ∷ 1 ∷ 255 ∷ []))
     ∷ on (10 ∷ 2 ∷ 4294967295 ∷ 8 ∷ 64 ∷ []) numbersOf (refused 6 1)
+    -- order 5: an empty record; a list of Borrow, and a record that holds it; a map from U8 to flags; a fixed list of Borrow, of count 0; a result of two marks
+    ∷ on (1 ∷ 0 ∷ []) depthOf (ok (2 ∷ 1 ∷ []))
+    ∷ on (3 ∷ 14 ∷ []) depthOf (ok (3 ∷ 1 ∷ []))
+    ∷ on (3 ∷ 14 ∷ 1 ∷ 2 ∷ 2 ∷ 64 ∷ []) depthOf (ok (5 ∷ 2 ∷ []))
+    ∷ on (6 ∷ 8 ∷ 5 ∷ 2 ∷ 64 ∷ []) depthOf (ok (4 ∷ 2 ∷ []))
+    ∷ on (10 ∷ 14 ∷ 0 ∷ []) depthOf (ok (3 ∷ 1 ∷ []))
+    ∷ on (9 ∷ mark ∷ mark ∷ []) depthOf (ok (2 ∷ 1 ∷ []))
     -- async start, lower async: five U32 give one pointer, four I32 four times
     ∷ on [] (startOfCall (asyncSide mem64) (6 ∷ 6 ∷ 6 ∷ 6 ∷ 6 ∷ []) (side mem32) []) (ok (1 ∷ []))
     ∷ on [] (startOfCall (asyncSide mem64) (6 ∷ 6 ∷ 6 ∷ 6 ∷ []) (side mem32) []) (ok (0 ∷ 0 ∷ 0 ∷ 0 ∷ []))
@@ -143,8 +153,26 @@ examples =
 pub examples-hold : map (λ e. asked (e .words) (e .asks)) examples ≡ map (λ e. e .says) examples
 unfolding
     asked atPosition then unless roundUp greatestAlign starts ends lastEnd recordSize greatestSize payloadOffset variantSize layout numbers
-    joinLists joinAll concat copies flatten addFlat maxFlat timesFlat sumFlat greatestFlat flatCount joinReach reachWord wordReach goodReach reach pack unpack rowOf flatOf isAlignment goodLayout
+    joinLists joinAll concat copies flatten addFlat maxFlat timesFlat sumFlat greatestFlat flatCount joinReach deeper reachWord wordReach goodReach reach pack unpack rowOf flatOf isAlignment goodLayout
     goodCount unusedZero goodAbi isDiscriminant isGood capacity place cell cellsFrom putFrom putRows reference caseOf membersOf casesOf kindOf typeOf
-    isTooLarge checked bodied buildFrom build buildAnswer tableAfter plainInfo readRow read infos noTable ask askTwo typeAnswer firstOver orSize refusedAt
+    isTooLarge isTooDeep checked bodied buildFrom build buildAnswer tableAfter plainInfo readRow read infos noTable ask askTwo typeAnswer firstOver orSize refusedAt
     judged placed placing flatAll atMost flattenAnswer orPointer startOf asyncStartAnswer behindPointer returned returnOf asyncReturnAnswer
 examples-hold = refl
+
+-- order 5: lists of lists, of which the first is of U8
+abbrev lists : ℕ → List ℕ
+lists zero = []
+lists (suc zero) = 3 ∷ 2 ∷ []
+lists (suc (suc n)) = lists (suc n) ++ 3 ∷ (64 + n) ∷ []
+
+-- what a build answers, in a table of 101 rows, to 100 of them and one definition more
+abbrev after100 : List ℕ → Answer ℕ
+after100 ws = buildAnswer (lists 100 ++ ws) (replicate 1616 0)
+
+-- none, an option of U8, a list of the last, one that is too large too, a map with a bad reference behind the last
+pub depth-holds :
+    map after100 ([] ∷ (8 ∷ 2 ∷ []) ∷ (3 ∷ 163 ∷ []) ∷ (10 ∷ 163 ∷ 4294967295 ∷ []) ∷ (5 ∷ 163 ∷ 18 ∷ []) ∷ [])
+    ≡ ok 100 ∷ ok 101 ∷ refused 9 100 ∷ refused 9 100 ∷ refused 4 100 ∷ []
+unfolding
+    roundUp greatestAlign greatestSize payloadOffset variantSize layout numbers deeper reach capacity reference kindOf typeOf isTooLarge isTooDeep checked bodied buildFrom build buildAnswer
+depth-holds = refl

@@ -3,7 +3,7 @@
 -- and what a placement accepts for 64 it accepts for 32.
 use mathlib.Core.Path.{_≡_, refl, sym, ap, _∙_}
 use mathlib.Core.Logic.{_↔_}
-use mathlib.Core.Bool.{Bool, true, false, cond}
+use mathlib.Core.Bool.{Bool, true, false, cond, _||_}
 use mathlib.Core.List.{List, [], _∷_, _++_, map, map-append, Forall₂, Forall₂·nil as empty, Forall₂·cons as pair}
 use mathlib.Core.Option.{Option, none, some}
 use Prim.Native.Nat.{ℕ, suc, _-_, _≤_, _<_}
@@ -17,11 +17,11 @@ use Rattle.canon.specs.Answer.{Leaf, is, no as refuses, Answer, ok, refu
 use Rattle.canon.specs.Types.{Ty, Core, plain}
 use Rattle.canon.specs.Layout.{Memory, mem32, mem64, Layout, within, starts, lastEnd, recordSize, layout, largestNumber}
 use Rattle.canon.specs.Flat.{flatten, flatCount}
-use Rattle.canon.specs.Reach.{Reach, noReach, joinReach, reach}
+use Rattle.canon.specs.Reach.{reach}
 use Rattle.canon.specs.Row.{Info, infoLayout, infoOf, rowAbi, rowInfo, rowOf, word, goodAbi, isGood}
 use Rattle.canon.specs.Table.{capacity, rowAt}
 use Rattle.canon.specs.Description.{reference, built, tableAfter}
-use Rattle.canon.specs.Question.{plainInfo, readRow, reading, read, infos, tooMany, noTable, ask, askTwo, typeAnswer, layoutsIn, Placing, placed, placing, bufferAfter, offsetsAfter, reachAll}
+use Rattle.canon.specs.Question.{plainInfo, readRow, reading, read, infos, tooMany, noTable, ask, askTwo, typeAnswer, layoutsIn, Placing, placed, placing, bufferAfter, offsetsAfter, anyBorrow}
 use Rattle.canon.specs.Signature.{flatAll}
 use Rattle.canon.proofs.Tests.{impossible, both-true}
 use Rattle.canon.proofs.Tightest.{Aligned}
@@ -294,14 +294,14 @@ unfolding flatAll
 flats-typed m [] = refl
 flats-typed m (u ∷ us) = rw (flat-back m u, flats-typed m us)
 
-abbrev pub reachTypes : List Ty → Reach
-reachTypes [] = noReach
-reachTypes (u ∷ us) = joinReach (reach u) (reachTypes us)
+abbrev pub borrowTypes : List Ty → Bool
+borrowTypes [] = false
+borrowTypes (u ∷ us) = reach u .borrow || borrowTypes us
 
-pub reaches-typed : (us : List Ty) → reachAll (map infoOf us) ≡ reachTypes us
-unfolding reachAll
-reaches-typed [] = refl
-reaches-typed (u ∷ us) = ap (joinReach (reach u)) (reaches-typed us)
+pub borrows-typed : (us : List Ty) → anyBorrow (map infoOf us) ≡ borrowTypes us
+unfolding anyBorrow
+borrows-typed [] = refl
+borrows-typed (u ∷ us) = ap (λ (b : Bool). reach u .borrow || b) (borrows-typed us)
 
 -- One placement in both memories
 

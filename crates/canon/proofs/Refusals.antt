@@ -1,8 +1,8 @@
 -- Demand 3: refused as too large exactly when no placement exists, for a record or tuple of a description and for a placement question. What a
--- description defines is refused so exactly when it is too large for the 64-bit memory.
+-- description defines is refused so exactly when it is too large for the 64-bit memory, and as too deep exactly when its depth is above 100.
 use mathlib.Core.Path.{_≡_, refl, sym, _∙_}
 use mathlib.Core.Logic.{_⊎_, inr, ⊎-elim, _↔_}
-use mathlib.Core.Bool.{Bool, true, false, cond}
+use mathlib.Core.Bool.{Bool, true, false, cond, _||_}
 use mathlib.Core.List.{List, [], _∷_, Forall₂}
 use mathlib.Core.Option.{Option, none, some}
 use Prim.Native.Nat.{ℕ, suc, _+_, _≤_, _<_}
@@ -11,9 +11,10 @@ use native.Mathlib.Omega.{arith}
 use lib.Dec.{ltb}
 use lib.ListN.{length, getD, take, drop}
 use borrow.Author.Tests.{ltb-true, ltb-false, lt-ltb, le-ltb}
-use Rattle.canon.specs.Answer.{Leaf, is, no as refuses, ok, refused, mapOption, truncated, badCount, tooLarge}
+use Rattle.canon.specs.Answer.{Leaf, is, no as refuses, ok, refused, mapOption, truncated, badKind, badRef, badCount, tooLarge, tooDeep}
 use Rattle.canon.specs.Types.{Ty, recordOf, tupleOf, Members, Kind, kRecord, kTuple}
 use Rattle.canon.specs.Layout.{Memory, mem32, mem64, Layout, largestNumber, starts, lastEnd, recordSize, recordLayout, layout, members, roundUp}
+use Rattle.canon.specs.Reach.{depth, deepest, isTooDeep}
 use Rattle.canon.specs.Description.{kindOf, shapeOf, bodyLength, isBadCount, membersOf, typeOf, isTooLarge, Defined, checked, bodied, define}
 use Rattle.canon.specs.Question.{firstOver, orSize, refusedAt, Placing, judged, placed}
 use Rattle.canon.proofs.Tests.{impossible}
@@ -32,51 +33,91 @@ large-iff fs w = (
 
 -- Definitions
 
--- the words w and ws spell the type t, after the types ts, and pass every check before the last
-pub record Passes (ts : List Ty) (w : ℕ) (ws : List ℕ) (t : Ty) : Type 0 where
+-- the words w and ws spell the type t, after the types ts: they pass every check as far as BadRef
+pub record Spells (ts : List Ty) (w : ℕ) (ws : List ℕ) (t : Ty) : Type 0 where
   pub kind : Kind
   pub known : kindOf w ≡ some kind
   pub whole : bodyLength (shapeOf kind) (getD ws 0 0) ≤ length ws
   pub counted : isBadCount kind (getD ws 0 0) ≡ false
   pub named : typeOf ts kind (take (bodyLength (shapeOf kind) (getD ws 0 0)) ws) ≡ some t
 
--- the last test of a definition: the 64-bit memory decides it
-checked-six : (n : ℕ) (t : Ty) → (checked n (some t) ≡ refuses tooLarge) ↔ (isTooLarge mem64 t ≡ true)
-unfolding checked
-checked-six n t = rw (tooLarge-either t) (go (isTooLarge mem64 t))
-  where
-    go : (b : Bool) → (cond {A = Leaf Defined} b (refuses tooLarge) (is (record { type = t; length = n })) ≡ refuses tooLarge) ↔ (b ≡ true)
-    go true = (λ h. refl, λ h. refl)
-    go false = (λ h. impossible (cc), λ h. impossible (cc))
+-- and pass every check before the last
+pub record Passes (ts : List Ty) (w : ℕ) (ws : List ℕ) (t : Ty) : Type 0 where
+  pub spells : Spells ts w ws t
+  pub shallow : depth t ≤ deepest
 
--- every earlier check passed, so that test decides
-pub define-six : {ts : List Ty} {w : ℕ} {ws : List ℕ} {t : Ty} → Passes ts w ws t → (define ts w ws ≡ refuses tooLarge) ↔ (isTooLarge mem64 t ≡ true)
+-- what is spelled comes to the last tests
+spells-checked : {ts : List Ty} {w : ℕ} {ws : List ℕ} {t : Ty} → Spells ts w ws t → (n : ℕ) × (define ts w ws ≡ checked n (some t))
 unfolding bodied
-define-six {ws = ws} {t = t} p =
-    simp (p .known, le-ltb _ _ (p .whole), p .counted, p .named) (checked-six (bodyLength (shapeOf (p .kind)) (getD ws 0 0)) t)
+spells-checked {ws = ws} s = (bodyLength (shapeOf (s .kind)) (getD ws 0 0), simp (s .known, le-ltb _ _ (s .whole), s .counted, s .named))
 
--- what is refused as too large came to its last test
-pub six-passes : (ts : List Ty) (w : ℕ) (ws : List ℕ) → define ts w ws ≡ refuses tooLarge → (t : Ty) × Passes ts w ws t
+-- and only what is spelled: the numbers of the tests before are 5 at most
+pub checked-spells : (ts : List Ty) (w : ℕ) (ws : List ℕ) (x : ℕ) → badCount < x → define ts w ws ≡ refuses x → (t : Ty) × Spells ts w ws t
 unfolding bodied checked
-six-passes ts w ws e = go (kindOf w) refl e
+checked-spells ts w ws x late e = go (kindOf w) refl e
   where
     body : Kind → ℕ
     body k = bodyLength (shapeOf k) (getD ws 0 0)
 
+    early : (y : ℕ) → y ≤ badCount → _≡_ {A = Leaf Defined} (refuses y) (refuses x) → ⊥
+    early y l h = let p : y ≡ x = cc in omega arith
+
     last :
         (k : Kind) → kindOf w ≡ some k → (short bad : Bool) (o : Option Ty) →
         ltb (length ws) (body k) ≡ short → isBadCount k (getD ws 0 0) ≡ bad → typeOf ts k (take (body k) ws) ≡ o →
-        cond short (refuses truncated) (cond bad (refuses badCount) (checked (body k) o)) ≡ refuses tooLarge →
-        (t : Ty) × Passes ts w ws t
-    last k known true bad o l c n h = impossible (cc)
-    last k known false true o l c n h = impossible (cc)
-    last k known false false none l c n h = impossible (cc)
+        cond short (refuses truncated) (cond bad (refuses badCount) (checked (body k) o)) ≡ refuses x →
+        (t : Ty) × Spells ts w ws t
+    last k known true bad o l c n h = absurd (early truncated (omega arith) h)
+    last k known false true o l c n h = absurd (early badCount (omega arith) h)
+    last k known false false none l c n h = absurd (early badRef (omega arith) h)
     last k known false false (some t) l c n h =
         (t, record { kind = k; known = known; whole = ltb-false (length ws) (body k) l; counted = c; named = n })
 
-    go : (o : Option Kind) → kindOf w ≡ o → bodied ts o ws ≡ refuses tooLarge → (t : Ty) × Passes ts w ws t
-    go none known h = impossible (cc)
+    go : (o : Option Kind) → kindOf w ≡ o → bodied ts o ws ≡ refuses x → (t : Ty) × Spells ts w ws t
+    go none known h = absurd (early badKind (omega arith) h)
     go (some k) known h = last k known _ _ _ refl refl refl h
+
+module _ (n : ℕ) (t : Ty) where
+  -- the depth, whatever the size
+  checked-nine : (checked n (some t) ≡ refuses tooDeep) ↔ (deepest < depth t)
+  unfolding checked isTooDeep
+  checked-nine = (λ e. elim (decLe (depth t) deepest) [ yes h ↦ absurd (small h e) | no h ↦ omega arith ], λ h. rw (lt-ltb deepest (depth t) h))
+    where
+      neither : (b : Bool) → cond {A = Leaf Defined} b (refuses tooLarge) (is (record { type = t; length = n })) ≡ refuses tooDeep → ⊥
+      neither true e = let p : tooLarge ≡ tooDeep = cc in omega arith
+      neither false e = impossible (cc)
+
+      small : depth t ≤ deepest → checked n (some t) ≡ refuses tooDeep → ⊥
+      small h e = neither (isTooLarge mem32 t || isTooLarge mem64 t) (rw (le-ltb deepest (depth t) h) at e)
+
+  -- the last test: the 64-bit memory decides it
+  checked-six : depth t ≤ deepest → (checked n (some t) ≡ refuses tooLarge) ↔ (isTooLarge mem64 t ≡ true)
+  unfolding checked isTooDeep
+  checked-six shallow = rw (le-ltb deepest (depth t) shallow, tooLarge-either t) (go (isTooLarge mem64 t))
+    where
+      go : (b : Bool) → (cond {A = Leaf Defined} b (refuses tooLarge) (is (record { type = t; length = n })) ≡ refuses tooLarge) ↔ (b ≡ true)
+      go true = (λ h. refl, λ h. refl)
+      go false = (λ h. impossible (cc), λ h. impossible (cc))
+
+module _ {ts : List Ty} {w : ℕ} {ws : List ℕ} {t : Ty} where
+  pub define-nine : Spells ts w ws t → (define ts w ws ≡ refuses tooDeep) ↔ (deepest < depth t)
+  define-nine s = let c = spells-checked s in rw (c .1) (checked-nine (c .0) t)
+
+  -- every earlier check passed, so the last decides
+  pub define-six : Passes ts w ws t → (define ts w ws ≡ refuses tooLarge) ↔ (isTooLarge mem64 t ≡ true)
+  define-six p = let c = spells-checked (p .spells) in rw (c .1) (checked-six (c .0) t (p .shallow))
+
+-- what is refused as too large came to its last test
+pub six-passes : (ts : List Ty) (w : ℕ) (ws : List ℕ) → define ts w ws ≡ refuses tooLarge → (t : Ty) × Passes ts w ws t
+six-passes ts w ws e =
+    let s = checked-spells ts w ws tooLarge (omega arith) e in
+    elim (decLe (depth (s .0)) deepest) [
+      | yes h ↦ (s .0, record { spells = s .1; shallow = h })
+      | no h ↦
+          let nine = define-nine (s .1) .1 (omega arith) in
+          let p : tooDeep ≡ tooLarge = cc in
+          absurd (omega arith)
+    ]
 
 -- Records and tuples of a description
 
@@ -110,8 +151,8 @@ pub product-passes :
     {ts : List Ty} {w : ℕ} {ws : List ℕ} {t : Ty} {k : Kind} {type : Members → Ty} → Product k type → kindOf w ≡ some k → Passes ts w ws t →
     (us : Members) × Passes ts w ws (type us)
 product-passes {ts} {w} {ws} {t} {k} product known p =
-    let q : p .kind ≡ k = cc in
-    let s = product-spells product ts (take (bodyLength (shapeOf k) (getD ws 0 0)) ws) t (rw q at (p .named)) in
+    let q : p .spells .kind ≡ k = (let e = p .spells .known in cc) in
+    let s = product-spells product ts (take (bodyLength (shapeOf k) (getD ws 0 0)) ws) t (rw q at (p .spells .named)) in
     (s .0, rw (← (s .1)) p)
 
 -- where the narrower layouts have no placement, the wider have none

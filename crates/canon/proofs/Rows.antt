@@ -1,4 +1,4 @@
--- Every definition's row is of good form and reads back as its type.
+-- The row of a definition that is not too deep is of good form, and every row reads back as its type.
 use mathlib.Core.Path.{_≡_, refl, sym, ap}
 use mathlib.Core.Bool.{Bool, true, false, cond}
 use mathlib.Core.Option.{Option, none, some}
@@ -12,7 +12,7 @@ use Rattle.canon.specs.Answer.{mapOption}
 use Rattle.canon.specs.Types.{Ty, scalar, string, recordOf, variantOf, listOf, tupleOf, mapOf, flagsOf, enumOf, optionOf, resultOf, fixedOf, count}
 use Rattle.canon.specs.Layout.{Memory, mem32, mem64, discriminant, layout}
 use Rattle.canon.specs.Flat.{flatten, flatCount}
-use Rattle.canon.specs.Reach.{reach}
+use Rattle.canon.specs.Reach.{deeper, reach, depth, deepest}
 use Rattle.canon.specs.Pack.{unpack}
 use Rattle.canon.specs.Row.{rowKind, countWord, countOf, flatWord, inner, rowOf, rowAbi, infoOf, rowInfo, flatOf, goodLayout, goodCount, unusedZero, goodAbi, isDiscriminant, isGood}
 use Rattle.canon.proofs.Rounding.{alignment-test}
@@ -106,9 +106,24 @@ kind-small (fixedOf t n) = omega arith
 abbrev pub Definition : Ty → Type 0
 Definition t = 1 ≤ rowKind t
 
-pub row-good : (t : Ty) → Definition t → isGood (rowOf t) ≡ true
+pub definition-deep : (t : Ty) → Definition t → 1 ≤ depth t
+unfolding reach deeper
+definition-deep (scalar s) d = absurd (omega arith)
+definition-deep string d = absurd (omega arith)
+definition-deep (recordOf ts) d = omega arith
+definition-deep (variantOf cs) d = omega arith
+definition-deep (listOf t) d = omega arith
+definition-deep (tupleOf ts) d = omega arith
+definition-deep (mapOf k v) d = omega arith
+definition-deep (flagsOf n) d = omega arith
+definition-deep (enumOf n) d = omega arith
+definition-deep (optionOf t) d = omega arith
+definition-deep (resultOf ok err) d = omega arith
+definition-deep (fixedOf t n) d = omega arith
+
+pub row-good : (t : Ty) → Definition t → depth t ≤ deepest → isGood (rowOf t) ≡ true
 unfolding isGood rowOf goodAbi
-row-good t d =
+row-good t d shallow =
     let l32 : goodLayout (rowAbi (rowOf t) .layouts .in32) ≡ true = layout-good mem32 t in
     let l64 : goodLayout (rowAbi (rowOf t) .layouts .in64) ≡ true = layout-good mem64 t in
     simp (
@@ -121,7 +136,7 @@ row-good t d =
       unused-good mem32 t,
       unused-good mem64 t,
       inner-good t,
-      good-word (reach t),
+      good-word (reach t) (definition-deep t d) shallow,
     )
 
 pub row-back : (t : Ty) → rowInfo (rowOf t) ≡ infoOf t

@@ -1,5 +1,5 @@
--- Where a build stops: at the first definition that is refused, among those that it comes to. With that, when a build answers 6, and demand 3
--- of its answer.
+-- Where a build stops: at the first definition that is refused, among those that it comes to. With that, when a build answers 9 and when 6, and
+-- demand 3 of its answer.
 use mathlib.Core.Path.{_≡_, refl, ap, _∙_}
 use mathlib.Core.Logic.{_⊎_, _↔_}
 use mathlib.Core.Bool.{true}
@@ -11,21 +11,22 @@ use native.Mathlib.Decide.{decLe}
 use native.Mathlib.Omega.{arith}
 use lib.ListN.{length, drop, length-append}
 use borrow.Author.Tests.{lt-ltb, le-ltb}
-use Rattle.canon.specs.Answer.{Leaf, is, no as refuses, refused, tooLong, tooLarge, noRoom}
+use Rattle.canon.specs.Answer.{Leaf, is, no as refuses, refused, tooLong, tooLarge, noRoom, tooDeep}
 use Rattle.canon.specs.Types.{Ty, Members, Kind}
 use Rattle.canon.specs.Layout.{mem32, mem64, members}
+use Rattle.canon.specs.Reach.{depth, deepest}
 use Rattle.canon.specs.Table.{capacity}
 use Rattle.canon.specs.Description.{kindOf, isTooLarge, Defined, define, Built, follow, buildFrom, mostWords, build, answered, built, buildAnswer}
 use Rattle.canon.proofs.Tests.{impossible}
-use Rattle.canon.proofs.Refusals.{Passes, define-six, six-passes, Product, product-passes, refused-six}
+use Rattle.canon.proofs.Refusals.{Spells, Passes, checked-spells, define-nine, define-six, six-passes, Product, product-passes, refused-six}
 use Rattle.canon.proofs.Built.{build-keeps, Sound, keeps-step}
 use Rattle.canon.specs.Placement.{NoPlacement}
 
 -- one definition more
 pub sound-more : (room : ℕ) (ts : List Ty) (w : ℕ) (ws : List ℕ) (d : Defined) → define ts w ws ≡ is d → Sound room ts → length ts < room → Sound room (ts ++ d .type ∷ [])
 sound-more room ts w ws d e s h =
-    let k = keeps-step room (room - suc (length ts)) ts w ws d e (s .definitions, omega arith) in
-    record { definitions = k .0; fits = omega (arith, k .1) }
+    let k = keeps-step room (room - suc (length ts)) ts w ws d e (s .passed, omega arith) in
+    record { passed = k .0; fits = omega (arith, k .1) }
 
 -- a build of the words ws, with room for so many rows, comes to the words vs after the types ts, with room for `left` rows more
 pub data Comes (room : ℕ) (ws : List ℕ) : ℕ → List Ty → List ℕ → Type 0 where
@@ -120,7 +121,20 @@ stopped-at ws t x i long room = (
   λ s. rw (← (s .2)) (at-definition ws t (s .1 .comes) x (s .0) .1 (s .3)),
 )
 
--- Too large
+-- 9 at i exactly when the words after i types spell a type that is deeper than 100
+pub stopped-nine :
+    (ws t : List ℕ) (i : ℕ) →
+    (buildAnswer ws t ≡ refused tooDeep i)
+    ↔ ((length ws ≤ mostWords) × (d : ComesTo (capacity (length t)) ws) × (length (d .types) ≡ i)
+    × (u : Ty) × Spells (d .types) (d .word) (d .rest) u × (deepest < depth u))
+stopped-nine ws t i =
+    let stops = stopped-at ws t tooDeep i (λ e. omega arith) (λ e. omega arith) in (
+      λ e.
+          let s = stops .0 e in
+          let p = checked-spells (s .1 .types) (s .1 .word) (s .1 .rest) tooDeep (omega arith) (s .3) in
+          (s .0, s .1, s .2, p .0, p .1, define-nine (p .1) .0 (s .3)),
+      λ s. stops .1 (s .0, s .1, s .2, define-nine (s .4) .1 (s .5)),
+    )
 
 -- 6 at i exactly when the definition after i types passes every check before and is too large for the 64-bit memory; so never on
 -- account of the 32-bit memory alone

@@ -29,6 +29,10 @@ noRoom = 7
 abbrev pub badRow : ℕ
 badRow = 8
 
+-- 02, order 5
+abbrev pub tooDeep : ℕ
+tooDeep = 9
+
 -- 01: "Leaf calls answer the number alone"
 pub data Leaf (A : Type 0) : Type 0 where
   is : A → Leaf A

@@ -7,9 +7,10 @@ use lib.Dec.{leb, ltb, eqb}
 use lib.ListN.{length, getD, take, drop, getElem?}
 use Rattle.canon.specs.Types.{Ty, recordOf, variantOf, listOf, tupleOf, mapOf, flagsOf, enumOf, optionOf, resultOf, fixedOf, plain, Members, ∅, _◂_, Case, bare, holding, Cases, ∎, _▸_, Kind, kRecord, kVariant, kList, kTuple, kMap, kFlags, kEnum, kOption, kResult, kFixed, kindWord}
 use Rattle.canon.specs.Layout.{Memory, mem32, mem64, mostFlags, largestNumber, numbers}
+use Rattle.canon.specs.Reach.{isTooDeep, reach}
 use Rattle.canon.specs.Row.{rowOf}
 use Rattle.canon.specs.Table.{capacity, putRows}
-use Rattle.canon.specs.Answer.{Leaf, is, no, Answer, ok, refused, mapOption, mapOption2, tooLong, truncated, badKind, badRef, badCount, tooLarge, noRoom}
+use Rattle.canon.specs.Answer.{Leaf, is, no, Answer, ok, refused, mapOption, mapOption2, tooLong, truncated, badKind, badRef, badCount, tooLarge, noRoom, tooDeep}
 
 -- References
 
@@ -104,12 +105,15 @@ pub record Defined : Type 0 where
   pub type : Ty
   pub length : ℕ
 
--- the last two tests of a definition: "BadRef, TooLarge (in either memory, map entries included)"
+-- the last three tests of a definition: "BadRef, TooDeep, TooLarge (in either memory, map entries included)"
 unfoldable pub checked : ℕ → Option Ty → Leaf Defined
 checked n none = no badRef
-checked n (some t) = cond (isTooLarge mem32 t || isTooLarge mem64 t) (no tooLarge) (is (record { type = t; length = n }))
+checked n (some t) =
+    cond (isTooDeep (reach t)) (no tooDeep)
+    (cond (isTooLarge mem32 t || isTooLarge mem64 t) (no tooLarge)
+    (is (record { type = t; length = n })))
 
--- "BadKind, Truncated, BadCount", then those two; ws are the words after the kind word
+-- "BadKind, Truncated, BadCount", then those three; ws are the words after the kind word
 unfoldable pub bodied : List Ty → Option Kind → List ℕ → Leaf Defined
 bodied ts none ws = no badKind
 bodied ts (some k) ws =

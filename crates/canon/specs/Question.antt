@@ -7,7 +7,6 @@ use lib.Dec.{leb, ltb}
 use lib.ListN.{length, drop, getElem?}
 use Rattle.canon.specs.Types.{Ty, plain}
 use Rattle.canon.specs.Layout.{Memory, Layout, roundUp, endAfter, starts, recordLayout, recordSize, largestNumber}
-use Rattle.canon.specs.Reach.{Reach, noReach, joinReach}
 use Rattle.canon.specs.Row.{Info, infoLayout, infoOf, rowInfo, isGood}
 use Rattle.canon.specs.Table.{capacity, rowAt}
 use Rattle.canon.specs.Description.{mostWords}
@@ -69,7 +68,7 @@ askingTwo missing look vs ws k =
 unfoldable pub askTwo : {A : Type 0} → List ℕ → ℕ → List ℕ → List ℕ → (List Info → List Info → Answer A) → Answer A
 askTwo t n vs ws k = askingTwo (noTable t n) (read t n) vs ws k
 
--- "Type: the five numbers of `CanonicalAbiInfo`, flat words and borrow of one reference"
+-- "Type: the five numbers of `CanonicalAbiInfo`, flat words, borrow and depth of one reference"
 unfoldable pub typeAnswer : List ℕ → ℕ → ℕ → Answer Info
 typeAnswer t n w = unless (noTable t n) badRow (atPosition 0 (read t n w))
 
@@ -124,9 +123,9 @@ unfoldable pub offsetsAfter : Memory → List ℕ → ℕ → List ℕ → List 
 offsetsAfter m t n ws out = bufferAfter (placing m t n ws (length out)) out
 
 -- `contains_borrow_resource`: "yes when any parameter reference reaches a Borrow"
-unfoldable pub reachAll : List Info → Reach
-reachAll [] = noReach
-reachAll (i ∷ is′) = joinReach (i .reach) (reachAll is′)
+unfoldable pub anyBorrow : List Info → Bool
+anyBorrow [] = false
+anyBorrow (i ∷ is′) = i .reach .borrow || anyBorrow is′
 
 unfoldable pub borrowAnswer : List ℕ → ℕ → List ℕ → Answer Bool
-borrowAnswer t n ws = ask t n false false ws (λ is′. ok (reachAll is′ .borrow))
+borrowAnswer t n ws = ask t n false false ws (λ is′. ok (anyBorrow is′))

@@ -98,7 +98,7 @@ pub record Abi : Type 0 where
   pub layouts : Both Layout
   pub flats : Option ℕ
 
--- what a question takes from a type. 01: "the five numbers of `CanonicalAbiInfo`, flat words and borrow"
+-- what a question takes from a type. 01, as order 5 amends it: "the five numbers of `CanonicalAbiInfo`, flat words, borrow and depth"
 pub record Info : Type 0 where
   pub abi : Abi
   pub flatWords : Both ℕ

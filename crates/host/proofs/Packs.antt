@@ -9,13 +9,13 @@ use Rattle.canon.specs.Row.{Abi}
 use Rattle.types.specs.Leaves.{VariantAbi, infoAlone, variantAnswer}
 use Rattle.types.specs.Means.{numberOf}
 use Rattle.types.specs.declared.refusal.Refusal.{Refusal}
-use Rattle.types.specs.declared.refusal.Refusal.the-variants.{TooLong, Truncated, BadKind, BadRef, BadCount, TooLarge, NoRoom, BadRow}
+use Rattle.types.specs.declared.refusal.Refusal.the-variants.{TooLong, Truncated, BadKind, BadRef, BadCount, TooLarge, NoRoom, BadRow, TooDeep}
 use Rattle.types.specs.States.{CaseState, noCases, addCases, closeCases}
 use Rattle.types.proofs.VariantLaws.{variant-answer}
 use Rattle.host.specs.Numbers.{chosen, leafNumber, abiWords, innerWords, variantWords}
 use Rattle.host.proofs.Chosen.{chosen-front, chosen-past}
 
-pub number-small : (x : Refusal) → numberOf x ≤ 8
+pub number-small : (x : Refusal) → numberOf x ≤ 9
 number-small TooLong = lit≤ tt
 number-small Truncated = lit≤ tt
 number-small BadKind = lit≤ tt
@@ -24,6 +24,7 @@ number-small BadCount = lit≤ tt
 number-small TooLarge = lit≤ tt
 number-small NoRoom = lit≤ tt
 number-small BadRow = lit≤ tt
+number-small TooDeep = lit≤ tt
 
 -- the info's numbers of a variant, and the others
 

@@ -44,7 +44,7 @@ abiAt size32 align32 size64 align64 flat =
 
 -- Answers
 
--- from bit 56 on "the number, 1 to 8"; "in the low 32 bits the definition's index or the reference's position, 0 for a leaf"
+-- from bit 56 on "the number, 1 to 9"; "in the low 32 bits the definition's index or the reference's position, 0 for a leaf"
 abbrev pub refusalNumber : ℕ → ℕ → ℕ
 refusalNumber x p = 2 ^ 56 * x + p
 
@@ -92,9 +92,9 @@ fieldWords f = f .offset ∷ f .end ∷ []
 abbrev pub yesNumber : Bool → ℕ
 yesNumber b = cond b 1 0
 
--- "k = 0 to 4 as for `flags`, 5 and 6 the flat words, 7 the borrow"
+-- "k = 0 to 4 as for `flags`, 5 and 6 the flat words, 7 the borrow, 8 the depth"
 abbrev pub typeWords : Info → List ℕ
-typeWords i = abiWords (i .abi) ++ (i .flatWords .in32 ∷ i .flatWords .in64 ∷ yesNumber (i .reach .borrow) ∷ [])
+typeWords i = abiWords (i .abi) ++ (i .flatWords .in32 ∷ i .flatWords .in64 ∷ yesNumber (i .reach .borrow) ∷ i .reach .depth ∷ [])
 
 -- "the size in bits 0 to 31, the alignment in bits 32 to 39"
 abbrev pub layoutNumber : Layout → ℕ

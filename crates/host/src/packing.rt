@@ -164,8 +164,8 @@ fn bit(b: bool) -> u32
     if b { 1 } else { 0 }
 }
 
-// Gives the five numbers of an info, the two flat words and the borrow, in the order of docs/HOST.md.
-fn type_words(info: TypeInfo) -> [u32; 8]
+// Gives the five numbers of an info, the two flat words, the borrow and the depth, in the order of docs/HOST.md.
+fn type_words(info: TypeInfo) -> [u32; 9]
     ensures { λ r. ⌜ r ≡ typeWords (typeInfoMeans info) ⌝ }
 {
     let abi = info.abi;
@@ -179,6 +179,7 @@ fn type_words(info: TypeInfo) -> [u32; 8]
         info.flat32,
         info.flat64,
         bit(info.borrow),
+        info.depth,
     ]
 }
 

@@ -13,7 +13,7 @@ use questions::canonical_abi;
 use questions::placement;
 use questions::size_align;
 
-// Refuses TooLong; then for each definition NoRoom, BadKind, Truncated, BadCount, BadRef, TooLarge in either memory.
+// Refuses TooLong; then for each definition NoRoom, BadKind, Truncated, BadCount, BadRef, TooDeep, TooLarge in either memory.
 #[no_mangle]
 pub extern "C" fn lampughjata_build(words: &[u32], table: &mut [u32]) -> u64
     ensures { λ r. ⌜ r ≡ answerNumber itself (buildAnswer (now (words .entry)) (now (table .entry))) ⌝ }

@@ -7,7 +7,7 @@ use Rattle.canon.specs.Flat.{joinLists, joinAll, concat, copies, flatten, addFl
 use Rattle.canon.specs.Pack.{pack}
 use Rattle.canon.specs.Row.{rowOf}
 use Rattle.canon.specs.Description.{reference, caseOf, membersOf, casesOf, kindOf, typeOf, isTooLarge, checked, bodied, buildFrom, build}
-use Rattle.canon.specs.Reach.{reach}
+use Rattle.canon.specs.Reach.{joinReach, deeper, reach, isTooDeep}
 use Rattle.words.specs.Words.{wordAt, wordsOf, wholeWords}
 use Rattle.listing.specs.Text.{digits, spaced, spacedAll, flatText, rowLine, rowLines, endLine, described, printed}
 
@@ -37,6 +37,6 @@ pub examples-hold :
     × (printed [] ≡ 111 ∷ 107 ∷ 32 ∷ 48 ∷ 10 ∷ [])
 unfolding
     roundUp greatestAlign starts ends lastEnd recordSize greatestSize payloadOffset variantSize layout numbers
-    joinLists joinAll concat copies flatten addFlat maxFlat timesFlat sumFlat greatestFlat flatCount reach pack rowOf reference caseOf membersOf casesOf
-    kindOf typeOf isTooLarge checked bodied buildFrom build wordAt wordsOf wholeWords digits spaced spacedAll flatText rowLine rowLines endLine described printed
+    joinLists joinAll concat copies flatten addFlat maxFlat timesFlat sumFlat greatestFlat flatCount joinReach deeper reach pack rowOf reference caseOf membersOf casesOf
+    kindOf typeOf isTooLarge isTooDeep checked bodied buildFrom build wordAt wordsOf wholeWords digits spaced spacedAll flatText rowLine rowLines endLine described printed
 examples-hold = (refl, refl, refl, refl)

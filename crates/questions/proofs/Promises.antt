@@ -16,7 +16,6 @@ use Rattle.canon.specs.Answer.{Answer, ok, refused, then, unless, tooLarge}
 use Rattle.canon.specs.Types.{Ty}
 use Rattle.canon.specs.Layout as canon
 use Rattle.canon.specs.Layout.{mem32, mem64, layout}
-use Rattle.canon.specs.Reach.{reachWord}
 use Rattle.canon.specs.Row.{Info, infoOf}
 use Rattle.canon.specs.Description.{reference, built, tableAfter}
 use Rattle.canon.specs.Question.{ask, typeAnswer, sizeAlignAnswer, layoutsIn, Placing, placed, placing, placementAnswer, bufferAfter, offsetsAfter}
@@ -25,7 +24,7 @@ use Rattle.canon.proofs.Wider.{_≼_}
 use Rattle.canon.proofs.Tests.{impossible}
 use Rattle.canon.proofs.Refusals.{Tightest}
 use Rattle.canon.proofs.Questions.{Reads, placing-six, placing-tightest, Names, type-built, ask-built, layouts-typed, flatTypes, flats-typed}
-use Rattle.canon.proofs.Questions.{reachTypes, reaches-typed, offsets-length, offsets-written, offsets-begin, Beside, beside-accepted, beside-refused, placing-beside}
+use Rattle.canon.proofs.Questions.{borrowTypes, borrows-typed, offsets-length, offsets-written, offsets-begin, Beside, beside-accepted, beside-refused, placing-beside}
 use Rattle.types.specs.Means.{numberOf, memoryOf, layoutMeans}
 use Rattle.types.specs.declared.refusal.Refusal.{Refusal}
 use Rattle.types.specs.declared.refusal.Refusal.the-variants.{TooLarge}
@@ -106,13 +105,13 @@ module _ (m : Memory) (t : RefT (List ℕ)) (n : ℕ) (refs : RefT (List ℕ)) (
   where
     pub gathered-of :
         (κs : Lfts 2) (r : Gathered) → gather.Post κs (m, (t, (n, (refs, tt)))) r (m, (t, (n, (refs, tt)))) →
-        gatheredMeans r ≡ ok (record { flat = packed (flatTypes (memoryOf m) us); reach = reachWord (reachTypes us) })
+        gatheredMeans r ≡ ok (record { flat = packed (flatTypes (memoryOf m) us); borrow = borrowTypes us })
     unfolding gatherAnswer ask unless
     gathered-of κs r h =
         h
         ∙ ap (λ (x : List ℕ). gatherAnswer (memoryOf m) x n (now refs)) table
         ∙ ask-built (λ is′. ok (together (memoryOf m) is′)) names
-        ∙ rw (flats-typed (memoryOf m) us, reaches-typed us)
+        ∙ rw (flats-typed (memoryOf m) us, borrows-typed us)
 
     placing-of : (room : ℕ) → length (now refs) ≤ room → placing (memoryOf m) (now t) n (now refs) room ≡ placed (map (layout (memoryOf m)) us)
     unfolding placing

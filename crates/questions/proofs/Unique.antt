@@ -34,11 +34,11 @@ use Rattle.questions.proofs.two.gather_two.Reads as gather-two
 use Rattle.questions.proofs.placing.placement.Reads as placement
 
 typeInfoFrom : row.Info → TypeInfo
-typeInfoFrom i = record { abi = infoFrom (i .abi); flat32 = i .flatWords .in32; flat64 = i .flatWords .in64; borrow = i .reach .borrow }
+typeInfoFrom i = record { abi = infoFrom (i .abi); flat32 = i .flatWords .in32; flat64 = i .flatWords .in64; borrow = i .reach .borrow; depth = i .reach .depth }
 
 type-info-back : (i : TypeInfo) → typeInfoFrom (typeInfoMeans i) ≡ i
 unfolding typeInfoFrom
-type-info-back i = ap (λ (a : CanonicalAbiInfo). record { abi = a; flat32 = i .flat32; flat64 = i .flat64; borrow = i .borrow }) (info-back (i .abi))
+type-info-back i = ap (λ (a : CanonicalAbiInfo). record { abi = a; flat32 = i .flat32; flat64 = i .flat64; borrow = i .borrow; depth = i .depth }) (info-back (i .abi))
 
 typeAnswerOf : Answer row.Info → TypeAnswer
 typeAnswerOf (ok i) = type.Info (typeInfoFrom i)
@@ -59,7 +59,7 @@ layout-back (layout.Layout f) = refl
 layout-back (layout.Refused x p) = ap (λ (y : Refusal). layout.Refused y p) (refusal-back x)
 
 gatheringOf : Together → Gathering
-gatheringOf g = record { flat = record { count = g .flat .number; types = g .flat .types }; reach = record { 0 = g .reach } }
+gatheringOf g = record { flat = record { count = g .flat .number; types = g .flat .types }; borrow = g .borrow }
 
 gatheredOf : Answer Together → Gathered
 gatheredOf (ok g) = gathered.All (gatheringOf g)

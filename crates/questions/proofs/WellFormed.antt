@@ -12,13 +12,13 @@ use Rattle.canon.specs.Types.{Ty}
 use Rattle.canon.specs.Layout.{Memory, mem32, mem64, within}
 use Rattle.canon.specs.Flat.{flatten, flatCount}
 use Rattle.canon.specs.Pack.{Packed}
-use Rattle.canon.specs.Reach.{reachWord, wordReach, goodReach}
+use Rattle.canon.specs.Reach.{goodReach}
 use Rattle.canon.specs.Row.{Info, infoOf, typeFlat, rowInfo, rowAbi, word, countOf, countWord, goodLayout, goodCount, unusedZero, goodAbi, isDiscriminant, isGood, flatOf}
-use Rattle.canon.specs.Question.{read, reachAll}
-use Rattle.canon.proofs.Tests.{impossible, both-true}
+use Rattle.canon.specs.Question.{read}
+use Rattle.canon.proofs.Tests.{both-true}
 use Rattle.canon.proofs.Counts.{counted}
 use Rattle.canon.proofs.Rows.{countWord-countOf, flat-back}
-use Rattle.canon.proofs.Reaches.{word-back, reach-back, reachAll-more}
+use Rattle.canon.proofs.Reaches.{anyBorrow-more}
 use Rattle.canon.proofs.Questions.{read-has, row-tested}
 use Rattle.flat_types.specs.Lists.{packed}
 use Rattle.flat_types.proofs.Gathering.{good-packed, flat-more}
@@ -37,11 +37,6 @@ module _ (r : List ℕ) (good : isGood r ≡ true) where
   row-unused : (m : Memory) → unusedZero (rowAbi r .flats) (rowPacked m r .types) ≡ true
   row-unused mem32 = both-true (unusedZero (rowAbi r .flats) (word r 6)) _ after-abi .0
   row-unused mem64 = both-true (unusedZero (rowAbi r .flats) (word r 7)) _ (both-true (unusedZero (rowAbi r .flats) (word r 6)) _ after-abi .1) .0
-
-  pub row-reach : goodReach (word r 15) ≡ true
-  row-reach =
-      both-true (isDiscriminant (word r 8)) _
-      (both-true (unusedZero (rowAbi r .flats) (word r 7)) _ (both-true (unusedZero (rowAbi r .flats) (word r 6)) _ after-abi .1) .1) .1
 
   row-counted : goodCount (rowAbi r .flats) ≡ true
   unfolding goodAbi
@@ -89,18 +84,17 @@ row-words m r good =
 pub read-words : (m : Memory) (t : List ℕ) (n w : ℕ) (i : Info) → read t n w ≡ is i → wordsOf m i ≡ packed (flatOf m i)
 read-words m = read-has (λ i. wordsOf m i ≡ packed (flatOf m i)) (typed-words m) (row-words m)
 
--- what a reference gives alone: its flat words as they stand, and its word 15, which is good
+-- what a reference gives alone: its flat words as they stand, and its borrow
 pub read-alone :
-    (m : Memory) (t : List ℕ) (n w : ℕ) (c v : ℕ) (i : Info) →
-    read t n w ≡ is i → i .abi .flats ≡ countOf c → i .reach ≡ wordReach v → goodReach v ≡ true →
-    record { flat = record { number = c; types = within m (i .flatWords) }; reach = v } ≡ alone m i
-read-alone m t n w c v i e f g h =
+    (m : Memory) (t : List ℕ) (n w : ℕ) (c : ℕ) (i : Info) →
+    read t n w ≡ is i → i .abi .flats ≡ countOf c →
+    record { flat = record { number = c; types = within m (i .flatWords) }; borrow = i .reach .borrow } ≡ alone m i
+read-alone m t n w c i e f =
     let k : countWord (i .abi .flats) ≡ c = ap countWord f ∙ countWord-countOf c in
     let p : record { number = c; types = within m (i .flatWords) } ≡ packed (flatOf m i) =
     ap (λ (x : ℕ). record { number = x; types = within m (i .flatWords) }) (sym k) ∙ read-words m t n w i e in
-    let q : v ≡ reachWord (i .reach) = sym (reach-back v h) ∙ ap reachWord (sym g) in
-    rw (p, ← q)
+    rw p
 
 -- One more info together with those before it
 pub with-more : (m : Memory) (is′ : List Info) (i : Info) → withMore (together m is′) (alone m i) ≡ together m (is′ ++ i ∷ [])
-with-more m is′ i = rw (flat-more m is′ i, word-back (reachAll is′), word-back (i .reach), reachAll-more is′ i)
+with-more m is′ i = rw (flat-more m is′ i, anyBorrow-more is′ i)

@@ -1,22 +1,22 @@
 -- What the references of a list give together: all that the questions on signatures take from it.
+use mathlib.Core.Bool.{Bool}
 use mathlib.Core.List.{List}
 use Prim.Native.Nat.{ℕ}
 use Rattle.canon.specs.Answer.{Answer, ok, then, unless, tooLong, badRow}
 use Rattle.canon.specs.Layout.{Memory}
 use Rattle.canon.specs.Pack.{Packed}
-use Rattle.canon.specs.Reach.{reachWord}
 use Rattle.canon.specs.Row.{Info}
-use Rattle.canon.specs.Question.{read, infos, tooMany, noTable, askTwo, reachAll}
+use Rattle.canon.specs.Question.{read, infos, tooMany, noTable, askTwo, anyBorrow}
 use Rattle.canon.specs.Signature.{flatAll}
 use Rattle.flat_types.specs.Lists.{packed}
 
--- the flat list in one memory, and what is reached as word 15 has it
+-- the flat list in one memory, and whether a Borrow is reached
 pub record Together : Type 0 where
   pub flat : Packed
-  pub reach : ℕ
+  pub borrow : Bool
 
 abbrev pub together : Memory → List Info → Together
-together m is′ = record { flat = packed (flatAll m is′); reach = reachWord (reachAll is′) }
+together m is′ = record { flat = packed (flatAll m is′); borrow = anyBorrow is′ }
 
 -- of references; positions count from 0
 abbrev pub togetherRefs : Memory → List ℕ → ℕ → List ℕ → Answer Together

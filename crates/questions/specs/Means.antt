@@ -1,10 +1,9 @@
 -- What this crate's answers stand for: 01's number of a refusal with the position, or 01's values.
-use mathlib.Core.Bool.{Bool, true}
 use mathlib.Core.List.{List}
 use Prim.Native.Nat.{ℕ}
 use Rattle.canon.specs.Answer.{Leaf, is, no, Answer, ok, refused}
 use Rattle.canon.specs.Layout.{Layout}
-use Rattle.canon.specs.Row.{Info, rowInfo, isGood}
+use Rattle.canon.specs.Row.{Info, rowInfo}
 use Rattle.types.specs.Means.{numberOf, layoutMeans, abiMeans}
 use Rattle.flat_types.specs.Lists.{words}
 use Rattle.table.specs.Means.{infoMeans}
@@ -30,7 +29,7 @@ use Rattle.questions.specs.declared.two.GatheredTwo.{GatheredTwo}
 use Rattle.questions.specs.declared.two.GatheredTwo.the-variants as two
 
 abbrev pub typeInfoMeans : TypeInfo → Info
-typeInfoMeans i = record { abi = abiMeans (i .abi); flatWords = record { in32 = i .flat32; in64 = i .flat64 }; reach = record { borrow = i .borrow } }
+typeInfoMeans i = record { abi = abiMeans (i .abi); flatWords = record { in32 = i .flat32; in64 = i .flat64 }; reach = record { borrow = i .borrow; depth = i .depth } }
 
 abbrev pub typeMeans : TypeAnswer → Answer Info
 typeMeans (type.Info i) = ok (typeInfoMeans i)
@@ -41,7 +40,7 @@ layoutAnswerMeans (layout.Layout f) = ok (layoutMeans f)
 layoutAnswerMeans (layout.Refused r p) = refused (numberOf r) (p .0)
 
 abbrev pub gatheringMeans : Gathering → Together
-gatheringMeans g = record { flat = words (g .flat); reach = g .reach .0 }
+gatheringMeans g = record { flat = words (g .flat); borrow = g .borrow }
 
 abbrev pub gatheredMeans : Gathered → Answer Together
 gatheredMeans (gathered.All g) = ok (gatheringMeans g)
@@ -56,11 +55,6 @@ twoMeans (two.Refused r p) = refused (numberOf r) (p .0)
 abbrev pub namedMeans : List ℕ → Named → Leaf Info
 namedMeans t (named.Row j) = is (rowInfo (rowIn t (j .0)))
 namedMeans t (named.Refused r) = no (numberOf r)
-
--- and a row that is named has a good form
-abbrev pub namedGood : List ℕ → Named → Bool
-namedGood t (named.Row j) = isGood (rowIn t (j .0))
-namedGood t (named.Refused r) = true
 
 abbrev pub readingMeans : Reading → Leaf Info
 readingMeans (reading.Info i) = is (infoMeans i)

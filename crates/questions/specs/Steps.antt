@@ -1,12 +1,11 @@
 -- The steps of the inner functions, as the code takes them; proofs/ carries them to canon.
-use mathlib.Core.Bool.{cond}
+use mathlib.Core.Bool.{cond, _||_}
 use mathlib.Core.List.{List, map}
 use mathlib.Core.Path.{_≡_}
 use Prim.Native.Nat.{ℕ, _/_, _%_, _<_, _≤_}
 use lib.ListN.{length, getD}
 use Rattle.canon.specs.Answer.{Leaf, is, andThen, Answer, ok, refused, then, tooLarge}
 use Rattle.canon.specs.Layout.{Memory, Layout, starts, lastEnd, largestNumber}
-use Rattle.canon.specs.Reach.{joinReach, reachWord, wordReach}
 use Rattle.canon.specs.Row.{Info, flatOf, infoLayout}
 use Rattle.canon.specs.Question.{read, infos, Placing, placed, layoutsIn, bufferAfter}
 use Rattle.canon.proofs.Tightest.{Aligned}
@@ -29,11 +28,11 @@ part f l = andThen l (λ i. is (f i))
 
 -- what one info gives
 abbrev pub alone : Memory → Info → Together
-alone m i = record { flat = packed (flatOf m i); reach = reachWord (i .reach) }
+alone m i = record { flat = packed (flatOf m i); borrow = i .reach .borrow }
 
 -- and one more
 abbrev pub withMore : Together → Together → Together
-withMore g h = record { flat = appendTo 16 (g .flat) (h .flat); reach = reachWord (joinReach (wordReach (g .reach)) (wordReach (h .reach))) }
+withMore g h = record { flat = appendTo 16 (g .flat) (h .flat); borrow = g .borrow || h .borrow }
 
 -- what two lists give after the tests before them
 abbrev pub twoRefs : List ℕ → ℕ → Memory → List ℕ → Memory → List ℕ → Answer Two

@@ -4,12 +4,13 @@ use types::CanonicalAbiInfo;
 use types::Layout;
 use types::Refusal;
 
-// What a type question answers: the five numbers, the flat words and the borrow.
+// What a type question answers: the five numbers, the flat words, the borrow and the depth.
 pub struct TypeInfo {
     pub abi: CanonicalAbiInfo,
     pub flat32: u32,
     pub flat64: u32,
     pub borrow: bool,
+    pub depth: u32,
 }
 
 pub enum TypeAnswer {

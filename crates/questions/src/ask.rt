@@ -74,6 +74,7 @@ fn type_info(info: Info) -> TypeInfo
         flat32: flat.word32(),
         flat64: flat.word64(),
         borrow: reach.is_borrow(),
+        depth: reach.depth(),
     }
 }
 

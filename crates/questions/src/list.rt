@@ -1,4 +1,4 @@
-// What the references of a list give together: the flat list in one memory, and what they reach.
+// What the references of a list give together: the flat list in one memory, and whether they reach a Borrow.
 ghost use mathlib.Core.Path.{_≡_};
 ghost use mathlib.Core.Bool.{false};
 ghost use Prim.Native.Nat.{_≤_};
@@ -16,7 +16,6 @@ use flat_types::FlatList;
 use table::FIRST_DEFINITION;
 use table::Found;
 use table::MemberPosition;
-use table::Reach;
 use table::plain_info;
 use table::row_flat;
 use table::row_reach;
@@ -25,7 +24,7 @@ use types::Refusal;
 
 pub struct Gathering {
     pub flat: FlatList,
-    pub reach: Reach,
+    pub borrow: bool,
 }
 
 pub enum Gathered {
@@ -41,7 +40,7 @@ enum Next {
 
 const NOTHING: Gathering = Gathering {
     flat: FlatList::EMPTY,
-    reach: Reach::NONE,
+    borrow: false,
 };
 
 impl Gathering {
@@ -50,10 +49,9 @@ impl Gathering {
         ensures { λ r. ⌜ gatheringMeans r ≡ withMore (gatheringMeans self) (gatheringMeans next) ⌝ }
     {
         let flat = self.flat;
-        let reach = self.reach;
         Gathering {
             flat: flat.append(next.flat),
-            reach: reach.join(next.reach),
+            borrow: self.borrow || next.borrow,
         }
     }
 }
@@ -69,7 +67,7 @@ fn read_next(memory: Memory, table: &[u32], n: u32, reference: u32) -> Next
                 let reach = info.reach;
                 Next::One(Gathering {
                     flat: flat.in_memory(memory),
-                    reach,
+                    borrow: reach.is_borrow(),
                 })
             }
             Found::BadRef => Next::Refused(Refusal::BadRef),
@@ -78,7 +76,7 @@ fn read_next(memory: Memory, table: &[u32], n: u32, reference: u32) -> Next
     match row_named(table, n, reference) {
         Named::Row(index) => Next::One(Gathering {
             flat: row_flat(table, index, memory),
-            reach: row_reach(table, index),
+            borrow: row_reach(table, index).is_borrow(),
         }),
         Named::Refused(why) => Next::Refused(why),
     }

@@ -1,10 +1,10 @@
 // The tests before any reference is read, and the test of a reference to a definition. What is then read of a row is the question's own, and
 // what reads in a loop has one caller, so that the compiler puts it there.
 ghost use mathlib.Core.Path.{_≡_};
-ghost use mathlib.Core.Bool.{true, false};
+ghost use mathlib.Core.Bool.{false};
 ghost use Prim.Native.Nat.{_≤_};
 ghost use Rattle.canon.specs.Question.{read, tooMany, noTable};
-ghost use Rattle.questions.specs.Means.{namedMeans, namedGood};
+ghost use Rattle.questions.specs.Means.{namedMeans};
 use table::DefinitionIndex;
 use table::FIRST_DEFINITION;
 use table::capacity;
@@ -35,7 +35,7 @@ pub fn no_table(table: &[u32], n: u32) -> bool
 // The row that a reference names, if it is there and of good form.
 pub(crate) fn row_named(table: &[u32], n: u32, reference: u32) -> Named
     requires { ⌜ (noTable (now table) n ≡ false) × (64 ≤ reference) ⌝ }
-    ensures { λ r. ⌜ (namedMeans (now (table .entry)) r ≡ read (now (table .entry)) n reference) × (namedGood (now (table .entry)) r ≡ true) ⌝ }
+    ensures { λ r. ⌜ namedMeans (now (table .entry)) r ≡ read (now (table .entry)) n reference ⌝ }
 {
     let index = DefinitionIndex(reference - FIRST_DEFINITION);
     if index.0 < n {

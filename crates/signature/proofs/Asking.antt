@@ -9,12 +9,10 @@ use borrow.Author.Tests.{le-ltb, lt-ltb}
 use Rattle.canon.specs.Answer.{Answer, ok, refused, then, unless, tooLong, badCount, badRow}
 use Rattle.canon.specs.Layout.{Memory}
 use Rattle.canon.specs.Pack.{Packed}
-use Rattle.canon.specs.Reach.{wordReach}
 use Rattle.canon.specs.Row.{Info}
 use Rattle.canon.specs.Signature.{flatAll, atMost, flattenAnswer, Signature}
 use Rattle.canon.specs.Types.{Core}
-use Rattle.canon.specs.Question.{read, infos, tooMany, noTable, ask, askTwo, reachAll, borrowAnswer}
-use Rattle.canon.proofs.Reaches.{word-back}
+use Rattle.canon.specs.Question.{read, infos, tooMany, noTable, ask, askTwo, anyBorrow, borrowAnswer}
 use Rattle.canon.proofs.Tests.{impossible}
 use Rattle.questions.specs.Gathers.{Together, together, gatherAnswer, Two, togetherTwo, gatherTwoAnswer}
 use Rattle.flat_types.specs.Lists.{unpacked, packed}
@@ -64,17 +62,17 @@ gathered-whole m t n ws g e = go (tooMany ws) (noTable t n) (infos (read t n) 0 
     go false false (ok is′) e = let q : g ≡ together m is′ = cc in whole-packed (flatAll m is′) (g .flat) (ap (λ (x : Together). x .flat) q)
     go false false (refused x p) e = impossible (cc)
 
-pub borrow-gathered : (m : Memory) (t : List ℕ) (n : ℕ) (ws : List ℕ) → borrowAnswer t n ws ≡ then (gatherAnswer m t n ws) (λ g. ok (wordReach (g .reach) .borrow))
+pub borrow-gathered : (m : Memory) (t : List ℕ) (n : ℕ) (ws : List ℕ) → borrowAnswer t n ws ≡ then (gatherAnswer m t n ws) (λ g. ok (g .borrow))
 unfolding borrowAnswer ask gatherAnswer unless then
 borrow-gathered m t n ws = go (tooMany ws) (noTable t n) (infos (read t n) 0 ws)
   where
     go :
         (b c : Bool) (a : Answer (List Info)) →
-        unless b tooLong (unless c badRow (then a (λ is′. ok (reachAll is′ .borrow))))
-        ≡ then (unless b tooLong (unless c badRow (then a (λ is′. ok (together m is′))))) (λ g. ok (wordReach (g .reach) .borrow))
+        unless b tooLong (unless c badRow (then a (λ is′. ok (anyBorrow is′))))
+        ≡ then (unless b tooLong (unless c badRow (then a (λ is′. ok (together m is′))))) (λ g. ok (g .borrow))
     go true c a = refl
     go false true a = refl
-    go false false (ok is′) = rw (word-back (reachAll is′))
+    go false false (ok is′) = refl
     go false false (refused x p) = refl
 
 -- Two lists

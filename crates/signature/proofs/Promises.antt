@@ -15,9 +15,9 @@ use Rattle.canon.specs.Layout as layout
 use Rattle.canon.specs.Pack.{Packed}
 use Rattle.canon.specs.Types.{Ty}
 use Rattle.canon.specs.Description.{tableAfter}
-use Rattle.canon.specs.Question.{borrowAnswer, reachAll}
+use Rattle.canon.specs.Question.{borrowAnswer, anyBorrow}
 use Rattle.canon.specs.Signature.{flatAll, atMost, flattenAnswer, Side, loweringMax, liftingMax, Signature, startOf, asyncStartAnswer, returnOf, asyncReturnAnswer}
-use Rattle.canon.proofs.Questions.{Names, ask-built, askTwo-built, flatTypes, flats-typed, reachTypes, reaches-typed}
+use Rattle.canon.proofs.Questions.{Names, ask-built, askTwo-built, flatTypes, flats-typed, borrowTypes, borrows-typed}
 use Rattle.types.specs.Means.{memoryOf}
 use Rattle.types.specs.declared.memory.Memory.{Memory}
 use Rattle.signature.specs.Means as means
@@ -73,9 +73,9 @@ module _ (κs : Lfts 2) (t : RefT (List ℕ)) (n : ℕ) (refs : RefT (List ℕ))
 
     pub borrow-of :
         (r : BorrowAnswer) → contains-borrow-resource.Post κs (t, (n, (refs, tt))) r (t, (n, (refs, tt))) →
-        means.borrowMeans r ≡ ok (reachTypes us .borrow)
+        means.borrowMeans r ≡ ok (borrowTypes us)
     unfolding borrowAnswer
-    borrow-of r h = h ∙ rw table (ask-built (λ is′. ok (reachAll is′ .borrow)) names ∙ rw (reaches-typed us))
+    borrow-of r h = h ∙ rw table (ask-built (λ is′. ok (anyBorrow is′)) names ∙ rw (borrows-typed us))
 
 -- Two lists: 01's two signatures, of types
 

@@ -122,12 +122,9 @@ pub fn flatten_lifting_types(side: Side, table: &[u32], n: u32, references: &[u3
 pub fn contains_borrow_resource(table: &[u32], n: u32, references: &[u32]) -> BorrowAnswer
     ensures { λ r. ⌜ borrowMeans r ≡ borrowAnswer (now (table .entry)) n (now (references .entry)) ⌝ }
 {
-    // What is reached knows no memory, so either will do.
+    // A Borrow is reached in both memories alike, so either will do.
     match gather(Memory::Memory32, table, n, references) {
-        Gathered::All(all) => {
-            let reach = all.reach;
-            BorrowAnswer::Reached(reach.is_borrow())
-        }
+        Gathered::All(all) => BorrowAnswer::Reached(all.borrow),
         Gathered::Refused(why, position) => BorrowAnswer::Refused(why, position),
     }
 }

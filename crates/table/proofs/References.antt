@@ -47,10 +47,10 @@ rest-is-four k h e = (
   rw e at (same-below 18 (λ i. cond (armed i) none (mapOption flatCount (getElem? plain i))) (λ i. cond (armed i) none (some (some 1))) refl k (omega arith)),
 )
 
--- only Borrow is a borrow
-reached : (k : ℕ) → k ≤ 17 → mapOption reach (getElem? plain k) ≡ some (record { borrow = eqb k 14 })
+-- only Borrow is a borrow, and none goes deep
+reached : (k : ℕ) → k ≤ 17 → mapOption reach (getElem? plain k) ≡ some (record { borrow = eqb k 14; depth = 0 })
 unfolding reach
-reached k h = same-below 18 (λ i. mapOption reach (getElem? plain i)) (λ i. some (record { borrow = eqb i 14 })) refl k (omega arith)
+reached k h = same-below 18 (λ i. mapOption reach (getElem? plain i)) (λ i. some (record { borrow = eqb i 14; depth = 0 })) refl k (omega arith)
 
 -- there is a type for each
 pub there : (k : ℕ) → k ≤ 17 → (t : Ty) × (getElem? plain k ≡ some t)
@@ -93,7 +93,7 @@ pub plain-is :
     k ≤ 17 →
     ((m : Memory) → mapOption (layout m) (getElem? plain k) ≡ some (within m (infoMeans i .abi .layouts))) →
     ((m : Memory) → wordsIn m (i .flat) ≡ packed (mapOption (flatten m) (getElem? plain k))) →
-    i .reach ≡ reachOf (record { borrow = eqb k 14 }) →
+    i .reach ≡ reachOf (record { borrow = eqb k 14; depth = 0 }) →
     is (infoMeans i) ≡ plainInfo (getElem? plain k)
 unfolding plainInfo
 plain-is i k h l f b = go (getElem? plain k) refl (there k h)
@@ -104,6 +104,6 @@ plain-is i k h l f b = go (getElem? plain k) refl (there k h)
         ap is
         (info-is i t (λ m. let q : some (layout m t) ≡ some (within m (infoMeans i .abi .layouts)) = rw e at (l m) in cc)
         (λ m. f m ∙ plain-words m k t e)
-        (let q : some (reach t) ≡ some (record { borrow = eqb k 14 }) = rw e at (reached k h) in
-        let w : reachMeans (i .reach) ≡ record { borrow = eqb k 14 } = ap reachMeans b ∙ word-back (record { borrow = eqb k 14 }) in
+        (let q : some (reach t) ≡ some (record { borrow = eqb k 14; depth = 0 }) = rw e at (reached k h) in
+        let w : reachMeans (i .reach) ≡ record { borrow = eqb k 14; depth = 0 } = ap reachMeans b ∙ word-back (record { borrow = eqb k 14; depth = 0 }) in
         cc))

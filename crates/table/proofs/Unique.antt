@@ -1,11 +1,10 @@
 -- No second outcome meets a promise, in the answer or in the lent memory.
-use mathlib.Core.Bool.{Bool, true}
-use mathlib.Core.Path.{_≡_, refl, sym, ap, ap₂, _∙_}
+use mathlib.Core.Bool.{Bool}
+use mathlib.Core.Path.{_≡_, refl, sym, ap, _∙_}
 use mathlib.Core.List.{List}
 use Prim.Native.Nat.{ℕ}
 use contract.Lifetimes.{Lfts}
 use denote.Ref.{RefT, at-last}
-use Rattle.canon.specs.Reach.{reachWord, wordReach, goodReach}
 use Rattle.canon.specs.Row as canon
 use Rattle.canon.specs.Row.{countWord}
 use Rattle.canon.proofs.Rows.{countWord-countOf}
@@ -18,16 +17,20 @@ use Rattle.types.specs.declared.memory.Memory.{Memory}
 use Rattle.flat_types.specs.Lists.{words, whole}
 use Rattle.flat_types.proofs.Halves.{whole-halves}
 use Rattle.flat_types.specs.declared.list.FlatList.{FlatList}
-use Rattle.table.specs.Means.{infoMeans, foundMeans, foundGood}
+use Rattle.table.specs.Means.{reachMeans, reachOf, deeperMeans, infoMeans, foundMeans}
 use Rattle.table.specs.declared.info.DefinitionIndex.{DefinitionIndex}
 use Rattle.table.specs.declared.info.Info.{Info}
 use Rattle.table.specs.declared.plain.Found.{Found}
 use Rattle.table.specs.declared.plain.Found.the-variants as found
+use Rattle.table.specs.declared.reach.Deeper.{Deeper}
+use Rattle.table.specs.declared.reach.Deeper.the-variants as deepened
 use Rattle.table.specs.declared.reach.Reach.{Reach}
 use Rattle.table.specs.declared.row.Row.{Row}
 use Rattle.table.proofs.cells.capacity.Reads as capacity
 use Rattle.table.proofs.from_bytes.take_row.Reads as take-row
 use Rattle.table.proofs.plain.plain_info.Reads as plain-info
+use Rattle.table.proofs.reach.Reach.deeper.Reads as deeper
+use Rattle.table.proofs.reach.Reach.depth.Reads as depth
 use Rattle.table.proofs.reach.Reach.is_borrow.Reads as is-borrow
 use Rattle.table.proofs.reach.Reach.is_good.Reads as is-good
 use Rattle.table.proofs.reach.Reach.join.Reads as join
@@ -40,9 +43,9 @@ use Rattle.table.proofs.read.row_reach.Reads as row-reach
 use Rattle.table.proofs.row.put_row.Reads as put-row
 use Rattle.table.proofs.to_bytes.give_row.Reads as give-row
 
--- an info from its meaning and its word 15
-abbrev back : ℕ → canon.Info → Info
-back w x =
+-- an info from its meaning
+abbrev back : canon.Info → Info
+back x =
     record {
       layouts =
           record {
@@ -50,34 +53,43 @@ back w x =
             in64 = record { size = x .abi .layouts .in64 .size; align = x .abi .layouts .in64 .align };
           };
       flat = record { count = countWord (x .abi .flats); words = whole (x .flatWords) };
-      reach = record { 0 = w };
+      reach = reachOf (x .reach);
     }
 
-back-again : (i : Info) → back (i .reach .0) (infoMeans i) ≡ i
-back-again i =
-    ap₂ (λ (n w : ℕ). record { layouts = i .layouts; flat = record { count = n; words = w }; reach = i .reach })
-    (countWord-countOf (i .flat .count)) (whole-halves (i .flat .words))
+same-word : (r q : Reach) → reachMeans r ≡ reachMeans q → r ≡ q
+same-word = told reachMeans reachOf (λ r. ap (λ (w : ℕ). record { 0 = w }) (reach-back (r .0)))
 
-same-info : (i j : Info) → infoMeans i ≡ infoMeans j → i .reach .0 ≡ j .reach .0 → i ≡ j
-same-info i j e w = sym (back-again i) ∙ ap₂ back w e ∙ back-again j
+same-info : (i j : Info) → infoMeans i ≡ infoMeans j → i ≡ j
+same-info =
+    told infoMeans back (λ i k. record {
+      layouts = i .layouts;
+      flat = record { count = countWord-countOf (i .flat .count) k; words = whole-halves (i .flat .words) k };
+      reach = record { 0 = reach-back (i .reach .0) k };
+    })
 
--- a good word 15 is told by what it means
-good-one : (v w : ℕ) → wordReach v ≡ wordReach w → goodReach v ≡ true → goodReach w ≡ true → v ≡ w
-good-one v w e g h = sym (reach-back v g) ∙ ap reachWord e ∙ reach-back w h
+same-found : (f g : Found) → foundMeans f ≡ foundMeans g → f ≡ g
+same-found (found.Info i) (found.Info j) e = ap found.Info (same-info i j (cc))
+same-found (found.Info i) found.BadRef e = impossible (cc)
+same-found found.BadRef (found.Info j) e = impossible (cc)
+same-found found.BadRef found.BadRef e = refl
 
-same-found : (f g : Found) → foundMeans f ≡ foundMeans g → foundGood f ≡ true → foundGood g ≡ true → f ≡ g
-same-found (found.Info i) (found.Info j) e a b =
-    let m : infoMeans i ≡ infoMeans j = cc in
-    ap found.Info (same-info i j m (good-one (i .reach .0) (j .reach .0) (ap (λ (x : canon.Info). x .reach) m) a b))
-same-found (found.Info i) found.BadRef e a b = impossible (cc)
-same-found found.BadRef (found.Info j) e a b = impossible (cc)
-same-found found.BadRef found.BadRef e a b = refl
+same-deeper : (d e : Deeper) → deeperMeans d ≡ deeperMeans e → d ≡ e
+same-deeper (deepened.Reach r) (deepened.Reach q) e = ap deepened.Reach (same-word r q (cc))
+same-deeper (deepened.Reach r) deepened.TooDeep e = impossible (cc)
+same-deeper deepened.TooDeep (deepened.Reach q) e = impossible (cc)
+same-deeper deepened.TooDeep deepened.TooDeep e = refl
 
 pub capacity-one : (n r q : ℕ) → capacity.Post tt (n, tt) r (n, tt) → capacity.Post tt (n, tt) q (n, tt) → r ≡ q
 capacity-one n r q g h = g .0 ∙ sym (h .0)
 
 pub is-borrow-one : (x : Reach) (r q : Bool) → is-borrow.Post tt (x, tt) r (x, tt) → is-borrow.Post tt (x, tt) q (x, tt) → r ≡ q
 is-borrow-one x r q g h = g ∙ sym h
+
+pub depth-one : (x : Reach) (r q : ℕ) → depth.Post tt (x, tt) r (x, tt) → depth.Post tt (x, tt) q (x, tt) → r ≡ q
+depth-one x r q g h = g ∙ sym h
+
+pub deeper-one : (x : Reach) (r q : Deeper) → deeper.Post tt (x, tt) r (x, tt) → deeper.Post tt (x, tt) q (x, tt) → r ≡ q
+deeper-one x r q g h = same-deeper r q (g ∙ sym h)
 
 pub join-one : (x y r q : Reach) → join.Post tt (x, (y, tt)) r (x, (y, tt)) → join.Post tt (x, (y, tt)) q (x, (y, tt)) → r ≡ q
 join-one x y r q g h = g ∙ sym h
@@ -86,11 +98,11 @@ pub is-good-one : (x : Reach) (r q : Bool) → is-good.Post tt (x, tt) r (x, tt)
 is-good-one x r q g h = g ∙ sym h
 
 pub plain-info-one : (w : ℕ) (r q : Found) → plain-info.Post tt (w, tt) r (w, tt) → plain-info.Post tt (w, tt) q (w, tt) → r ≡ q
-plain-info-one w r q g h = same-found r q (g .0 ∙ sym (h .0)) (g .1) (h .1)
+plain-info-one w r q g h = same-found r q (g ∙ sym h)
 
 module _ (κs : Lfts 1) (t : RefT (List ℕ)) (j : DefinitionIndex) where
   pub row-info-one : (r q : Info) → row-info.Post κs (t, (j, tt)) r (t, (j, tt)) → row-info.Post κs (t, (j, tt)) q (t, (j, tt)) → r ≡ q
-  row-info-one r q g h = same-info r q (g .0 ∙ sym (h .0)) (g .1 ∙ sym (h .1))
+  row-info-one r q g h = same-info r q (g ∙ sym h)
 
   pub row-kind-one : (r q : ℕ) → row-kind.Post κs (t, (j, tt)) r (t, (j, tt)) → row-kind.Post κs (t, (j, tt)) q (t, (j, tt)) → r ≡ q
   row-kind-one r q g h = g ∙ sym h

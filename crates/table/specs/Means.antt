@@ -1,21 +1,23 @@
 -- What this crate's values stand for.
-use mathlib.Core.Bool.{Bool, true}
+use mathlib.Core.Bool.{cond}
 use mathlib.Core.List.{List, [], _∷_}
 use mathlib.Core.Option.{some}
 use mathlib.Core.Path.{_≡_}
 use Prim.Native.Nat.{ℕ}
 use lib.ListN.{getElem?}
-use Rattle.canon.specs.Answer.{Leaf, is, no, mapOption, badRef}
+use Rattle.canon.specs.Answer.{Leaf, is, no, mapOption, badRef, tooDeep}
 use Rattle.canon.specs.Flat.{flatCount}
 use Rattle.canon.specs.Layout.{Memory, within, layout}
 use Rattle.canon.specs.Row as canon
 use Rattle.canon.specs.Reach as reach
-use Rattle.canon.specs.Reach.{reachWord, wordReach, goodReach}
+use Rattle.canon.specs.Reach.{reachWord, wordReach, deeper, isTooDeep}
 use Rattle.canon.specs.Row.{countOf}
 use Rattle.canon.specs.Types.{plain}
 use Rattle.types.specs.Means.{layoutsMeans}
 use Rattle.flat_types.specs.Lists.{halves}
 use Rattle.table.specs.declared.reach.Reach.{Reach}
+use Rattle.table.specs.declared.reach.Deeper.{Deeper}
+use Rattle.table.specs.declared.reach.Deeper.the-variants as deepened
 use Rattle.table.specs.declared.info.Info.{Info}
 use Rattle.table.specs.declared.plain.Found.{Found}
 use Rattle.table.specs.declared.plain.Found.the-variants as found
@@ -27,6 +29,14 @@ reachMeans r = wordReach (r .0)
 
 abbrev pub reachOf : reach.Reach → Reach
 reachOf r = record { 0 = reachWord r }
+
+-- what a definition reaches, by what its references reach
+unfoldable pub deeperAnswer : reach.Reach → Leaf reach.Reach
+deeperAnswer r = cond (isTooDeep (deeper r)) (no tooDeep) (is (deeper r))
+
+abbrev pub deeperMeans : Deeper → Leaf reach.Reach
+deeperMeans (deepened.Reach r) = is (reachMeans r)
+deeperMeans deepened.TooDeep = no tooDeep
 
 -- canon's info: the five numbers, the flat words, what is reached
 abbrev pub infoMeans : Info → canon.Info
@@ -46,11 +56,6 @@ Plain k a =
 abbrev pub foundMeans : Found → Leaf canon.Info
 foundMeans (found.Info i) = is (infoMeans i)
 foundMeans found.BadRef = no badRef
-
--- and its word 15 is good
-abbrev pub foundGood : Found → Bool
-foundGood (found.Info i) = goodReach (i .reach .0)
-foundGood found.BadRef = true
 
 -- 01, "Row": the sixteen words in their order
 abbrev pub rowMeans : Row → List ℕ

@@ -1,13 +1,12 @@
 // What the references without a definition stand for: the scalars, String and the handles.
 ghost use mathlib.Core.Path.{_≡_};
-ghost use mathlib.Core.Bool.{true};
 ghost use Prim.Native.Nat.{_≤_};
 ghost use lib.Dec.{eqb};
 ghost use lib.ListN.{getElem?};
 ghost use Rattle.canon.specs.Question.{plainInfo};
 ghost use Rattle.canon.specs.Types.{plain};
 ghost use Rattle.types.specs.Means.{abiMeans};
-ghost use Rattle.table.specs.Means.{Plain, foundMeans, foundGood, reachOf};
+ghost use Rattle.table.specs.Means.{Plain, foundMeans, reachOf};
 use crate::info::Info;
 use crate::reach::Reach;
 use flat_types::FlatTypes;
@@ -41,7 +40,7 @@ fn abi(reference: u32) -> CanonicalAbiInfo
 }
 
 fn reach(reference: u32) -> Reach
-    ensures { λ r. ⌜ r ≡ reachOf (record { borrow = eqb reference 14 }) ⌝ }
+    ensures { λ r. ⌜ r ≡ reachOf (record { borrow = eqb reference 14; depth = 0 }) ⌝ }
 {
     if reference == BORROW {
         Reach::BORROW
@@ -52,7 +51,7 @@ fn reach(reference: u32) -> Reach
 
 // Refuses BadRef for every word above 17.
 pub fn plain_info(reference: u32) -> Found
-    ensures { λ r. ⌜ (foundMeans r ≡ plainInfo (getElem? plain reference)) × (foundGood r ≡ true) ⌝ }
+    ensures { λ r. ⌜ foundMeans r ≡ plainInfo (getElem? plain reference) ⌝ }
 {
     if LAST < reference {
         return Found::BadRef;

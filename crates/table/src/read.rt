@@ -135,7 +135,7 @@ pub fn row_reach(table: &[u32], index: DefinitionIndex) -> Reach
 }
 
 pub fn row_info(table: &[u32], index: DefinitionIndex) -> Info
-    ensures { λ r. ⌜ (infoMeans r ≡ rowInfo (rowIn (now (table .entry)) (index .0))) × (r .reach .0 ≡ word (rowIn (now (table .entry)) (index .0)) 15) ⌝ }
+    ensures { λ r. ⌜ infoMeans r ≡ rowInfo (rowIn (now (table .entry)) (index .0)) ⌝ }
 {
     Info {
         layouts: row_layouts(table, index),

@@ -4,7 +4,7 @@ use mathlib.Core.Bool.{cond}
 use Prim.Native.Nat.{ℕ}
 use lib.Dec.{eqb}
 use Rattle.types.specs.declared.refusal.Refusal.{Refusal}
-use Rattle.types.specs.declared.refusal.Refusal.the-variants.{TooLong, Truncated, BadKind, BadRef, BadCount, TooLarge, NoRoom, BadRow}
+use Rattle.types.specs.declared.refusal.Refusal.the-variants.{TooLong, Truncated, BadKind, BadRef, BadCount, TooLarge, NoRoom, BadRow, TooDeep}
 use Rattle.types.specs.Means.{numberOf}
 
 -- what can be read back is told apart
@@ -16,7 +16,7 @@ refusalOf n =
     cond (eqb n 1) TooLong
     (cond (eqb n 2) Truncated
     (cond (eqb n 3) BadKind
-    (cond (eqb n 4) BadRef (cond (eqb n 5) BadCount (cond (eqb n 6) TooLarge (cond (eqb n 7) NoRoom BadRow))))))
+    (cond (eqb n 4) BadRef (cond (eqb n 5) BadCount (cond (eqb n 6) TooLarge (cond (eqb n 7) NoRoom (cond (eqb n 8) BadRow TooDeep)))))))
 
 pub refusal-back : (r : Refusal) → refusalOf (numberOf r) ≡ r
 refusal-back TooLong = refl
@@ -27,3 +27,4 @@ refusal-back BadCount = refl
 refusal-back TooLarge = refl
 refusal-back NoRoom = refl
 refusal-back BadRow = refl
+refusal-back TooDeep = refl

@@ -1,13 +1,13 @@
 -- What the code's values stand for: 01's number for each refusal and 01's values for each answer.
 use mathlib.Core.Option.{Option, none, some}
 use Prim.Native.Nat.{ℕ}
-use Rattle.canon.specs.Answer.{Leaf, is, no, tooLong, truncated, badKind, badRef, badCount, tooLarge, noRoom, badRow}
+use Rattle.canon.specs.Answer.{Leaf, is, no, tooLong, truncated, badKind, badRef, badCount, tooLarge, noRoom, badRow, tooDeep}
 use Rattle.canon.specs.Layout as canon
 use Rattle.canon.specs.Layout.{mem32, mem64, Both}
 use Rattle.canon.specs.Row.{Abi}
 use Rattle.types.specs.Leaves.{Field, VariantAbi}
 use Rattle.types.specs.declared.refusal.Refusal.{Refusal}
-use Rattle.types.specs.declared.refusal.Refusal.the-variants.{TooLong, Truncated, BadKind, BadRef, BadCount, TooLarge, NoRoom, BadRow}
+use Rattle.types.specs.declared.refusal.Refusal.the-variants.{TooLong, Truncated, BadKind, BadRef, BadCount, TooLarge, NoRoom, BadRow, TooDeep}
 use Rattle.types.specs.declared.round.Rounded.{Rounded}
 use Rattle.types.specs.declared.round.Rounded.the-variants as rounded
 use Rattle.types.specs.declared.flat.FlatCount.{FlatCount}
@@ -44,6 +44,7 @@ numberOf BadCount = badCount
 numberOf TooLarge = tooLarge
 numberOf NoRoom = noRoom
 numberOf BadRow = badRow
+numberOf TooDeep = tooDeep
 
 abbrev pub roundedMeans : Rounded → Leaf ℕ
 roundedMeans (rounded.Value v) = is v

@@ -11,6 +11,7 @@ pub enum Refusal {
     TooLarge,
     NoRoom,
     BadRow,
+    TooDeep,
 }
 
 impl Refusal {
@@ -26,6 +27,7 @@ impl Refusal {
             Refusal::TooLarge => 6,
             Refusal::NoRoom => 7,
             Refusal::BadRow => 8,
+            Refusal::TooDeep => 9,
         }
     }
 }

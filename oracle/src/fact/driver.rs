@@ -1,15 +1,17 @@
 //! By hand: document 01's words in, the original's own calls, numbers out.
 //!
-//! Nothing is computed here. A description's definitions become the parsed types that
+//! Nothing is computed here but the depth. A description's definitions become the parsed types that
 //! `ComponentTypesBuilder::defined_type` takes; rows and answers are read off the original's data.
 use super::*;
 use crate::component::*;
 use std::cell::Cell;
+use std::collections::HashMap;
 use std::panic::{AssertUnwindSafe, catch_unwind};
 use wasmparser::component_types::{ComponentDefinedType, ComponentDefinedTypeId};
 use wasmparser::types::TypesRef;
 use words::{Definition, HANDLES};
 
+mod depth;
 mod questions;
 mod words;
 
@@ -25,6 +27,8 @@ pub struct Original {
     /// The types of the definitions so far, and their kind words.
     types: Vec<InterfaceType>,
     kinds: Vec<u32>,
+    /// How deep these types go.
+    depths: HashMap<InterfaceType, u32>,
     /// How many of the description's words these took.
     read: usize,
     remembers: bool,
@@ -67,6 +71,7 @@ impl Original {
             parsed: words::handles(),
             types: Vec::new(),
             kinds: Vec::new(),
+            depths: HashMap::new(),
             read: 0,
             remembers: true,
         }
@@ -93,8 +98,10 @@ impl Original {
                 Definition::Parsed(parsed) => self.convert(parsed),
                 Definition::WideEnum(cases) => self.wide_enum(cases),
             };
-            self.types.push(ty.ok_or(Stopped::Panicked(index))?);
+            let ty = ty.ok_or(Stopped::Panicked(index))?;
+            self.types.push(ty);
             self.kinds.push(kind);
+            self.depths.insert(ty, self.depth_over_parts(ty));
             self.read += length;
         }
         Ok(self.types.len())
@@ -162,7 +169,7 @@ impl Original {
     }
 
     /// Puts a well-formed row that no build wrote into the original's tables. Words 8 to 14 of it play no
-    /// part in a question.
+    /// part in a question. Word 15 is the borrow plus twice the depth.
     pub fn forge(&mut self, row: &[u32; 16]) {
         let abi = CanonicalAbiInfo {
             size32: row[1],
@@ -176,9 +183,10 @@ impl Original {
             codes.map(|code| FLAT_TYPES[code as usize]).collect()
         };
         let flat = (row[5] != 255).then(|| [row[6], row[7]].map(unpack));
-        let ty = builder_opened::forge(&mut self.builder, abi, flat, row[15] == 1);
+        let ty = builder_opened::forge(&mut self.builder, abi, flat, row[15] % 2 == 1);
         self.types.push(ty);
         self.kinds.push(row[0]);
+        self.depths.insert(ty, row[15] / 2);
     }
 
     /// Document 01's sixteen words of a definition.
@@ -197,7 +205,7 @@ impl Original {
         let mut row = [0; 16];
         row[0] = self.kinds[index];
         row[1..8].copy_from_slice(&[size32, align32, size64, align64, flat, flat32, flat64]);
-        row[15] = borrow;
+        row[15] = borrow + 2 * self.depth(&ty);
         let builder = &self.builder;
         let variant = match ty {
             InterfaceType::Variant(i) => Some(&builder[i].info),

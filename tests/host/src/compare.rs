@@ -204,7 +204,7 @@ impl Run {
     /// A table that no build wrote. The original is given its well-formed rows; a reference to
     /// another one is refused before the original is asked.
     pub fn forged(&mut self, table: Vec<u32>, n: u32) -> Subject {
-        const FILLER: Row = [1, 0, 1, 0, 1, 0, 0, 0, 0, 0, 0, 0, 0, 0, 0, 0];
+        const FILLER: Row = [1, 0, 1, 0, 1, 0, 0, 0, 0, 0, 0, 0, 0, 0, 0, 2];
         let mut original = Original::new();
         for index in 0..model::capacity(table.len()).min(n as usize) {
             let row = model::row(&table, index);
@@ -234,8 +234,8 @@ impl Run {
         }
     }
 
-    /// The original's build of the definitions that the model accepted, their rows compared; where
-    /// the model refused the next as too large, the original must overflow or saturate there.
+    /// The original's build of the definitions that the model accepted, their rows compared, and what it
+    /// makes of the one that the model refused.
     fn original_of(
         &mut self,
         words: &[u32],
@@ -271,7 +271,9 @@ impl Run {
             let row = model::row(table, index);
             let mut said = original.row(index);
             Fault::original_row(self.fault, &mut said);
-            let same = said == row && original.agrees_with_itself(index);
+            // Order 5: what is accepted is at most 100 deep.
+            let shallow = said[15] / 2 <= 100;
+            let same = said == row && shallow && original.agrees_with_itself(index);
             self.tally.original(same, *suspect, || {
                 let what = format!("row {index} of {words:?}");
                 difference(&what, "original", &said, "model", &row)
@@ -279,20 +281,43 @@ impl Run {
             Fault::OriginalMemories.exchange(self.fault, &mut said);
             self.tally.original_row(&said);
         }
-        if encode::refusal(model.answer) == 6 {
-            let next = original.build(words, accepted + 1);
-            let panicked = next == Err(Stopped::Panicked(accepted));
-            // Order 14: never on account of the 32-bit memory alone.
-            let saturated = next == Ok(accepted + 1) && {
-                let row = original.row(accepted);
-                row[0] == 10 && row[3] == u32::MAX
-            };
-            self.tally.overflow(panicked, saturated, || {
-                let what = format!("definition {accepted} of {words:?}");
-                difference(&what, "original", &next, "model", &"refusal 6")
-            });
-        }
+        self.original_of_refused(words, accepted, model.answer, &mut original);
         (Some(original), suspects)
+    }
+
+    /// Where the model refused as too large, the original must overflow or saturate; where it refused as too
+    /// deep, the original, which knows no such limit, must go on, or overflow as well. In either case the
+    /// depth of what the definition refers to, as the oracle's driver finds it, says which of the two it is.
+    fn original_of_refused(
+        &mut self,
+        words: &[u32],
+        accepted: usize,
+        answer: u64,
+        original: &mut Original,
+    ) {
+        let refusal = encode::refusal(answer);
+        if ![6, 9].contains(&refusal) {
+            return;
+        }
+        let refused = &reading::definitions(words, accepted + 1)[accepted];
+        let depths = refused.earlier().map(|index| original.row(index)[15] / 2);
+        let is_deep = depths.max().unwrap_or(0) >= 100;
+        let next = original.build(words, accepted + 1);
+        let panicked = next == Err(Stopped::Panicked(accepted));
+        let row = (next == Ok(accepted + 1)).then(|| original.row(accepted));
+        // Order 14: never on account of the 32-bit memory alone.
+        let is_saturated = |row: Row| row[0] == 10 && row[3] == u32::MAX;
+        let report = || {
+            let what = format!("definition {accepted} of {words:?}");
+            let model = format!("refusal {refusal}");
+            difference(&what, "original", &(is_deep, next, row), "model", &model)
+        };
+        let tally = &mut self.tally;
+        match (refusal, is_deep) {
+            (6, false) => tally.overflow(panicked, row.is_some_and(is_saturated), report),
+            (9, true) => tally.too_deep(panicked, row.is_some(), report),
+            _ => tally.consistent(false, report),
+        }
     }
 
     /// The original's outcome against the model's answer, which is no refusal or refusal 6.

@@ -18,7 +18,7 @@ const REFUSALS: [(Function, &[u64]); 21] = [
     (Discriminant, &[5]),
     (Record, &[6, 8]),
     (Variant, &[5, 6, 8]),
-    (Build, &[1, 2, 3, 4, 5, 6, 7]),
+    (Build, &[1, 2, 3, 4, 5, 6, 7, 9]),
     (Type, &[4, 8]),
     (SizeAlign, &[4, 8]),
     (Placement, &[1, 4, 6, 7, 8]),
@@ -31,7 +31,7 @@ const REFUSALS: [(Function, &[u64]); 21] = [
 ];
 
 /// The most numbers that a call's k chooses from, and one more for a k above the last.
-const CHOICES: usize = 9;
+const CHOICES: usize = 10;
 
 /// By function, cell and choice, one bit for each outcome: bit 0 for an answer, bit r for refusal r.
 pub struct Coverage([[[u16; CHOICES]; 2]; REFUSALS.len()]);

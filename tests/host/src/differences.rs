@@ -2,7 +2,7 @@
 //! docs/DIFFERENCES.md. Built with the profile `shipped` the original wraps where it panics else.
 use crate::calls::{Leaf, Question};
 use crate::original::Outcome;
-use crate::{encode, model, original};
+use crate::{encode, generate, model, original};
 use oracle::{Original, Stopped};
 use std::time::Instant;
 
@@ -261,6 +261,7 @@ fn limits() {
     println!("    original: {built:?} (None: panics)");
     let built = model::build(&definitions, &mut [0; 16_400]);
     println!("    model:    {}", ended(built));
+    deepest();
     println!("  a record of 16383 U8, in 16385 words");
     let words = [vec![1, 16_383], vec![2; 16_383]].concat();
     println!("    original: {}", original_build(&words));
@@ -278,6 +279,15 @@ fn limits() {
     };
     let asked = model::ask(&question, &[], 0, [&mut [0; 16_385], &mut []]);
     println!("    model:    {}", ended(asked));
+}
+
+/// Order 5's limit: the last of 101 definitions, each on the one before.
+fn deepest() {
+    let options = generate::chain(8, 2, 101);
+    println!("  101 options, the first of U8 and each other of the one before");
+    println!("    original: {}", original_build(&options));
+    let built = model::build(&options, &mut [0; 16_400]);
+    println!("    model:    {}", ended(built));
 }
 
 fn ended(answer: model::Answer<u64>) -> String {

@@ -1,9 +1,10 @@
 //! Faults put into the port's answers or the original's, or into the rows of either that are tested by
 //! themselves, to show that each is caught.
-use crate::compare::GUARD;
+use crate::compare::{GUARD, bytes_of};
 use crate::encode;
-use crate::model::{BY_MEMORY, MOST_WORDS, ROW, Row, capacity};
+use crate::model::{self, BY_MEMORY, MOST_WORDS, ROW, Row, capacity, put_row, words_of};
 use crate::port::{Answered, Call, Cell, Function};
+use crate::reading::{self, Definition};
 
 /// What is wrong on purpose.
 #[derive(Clone, Copy, PartialEq, Eq, Debug)]
@@ -45,6 +46,10 @@ pub enum Fault {
     Rounding,
     /// Of more than 32 flags the group that is not full is lost.
     FullGroups,
+    /// A definition is one deeper than its first reference, whatever the others are.
+    FirstReference,
+    /// A map is two deeper than its parts, as if its entry were a definition.
+    EntryBetween,
     /// The port's built rows have the memories exchanged, after the comparison, so that they agree with the model.
     PortMemories,
     /// The same of the original's.
@@ -55,7 +60,7 @@ pub enum Fault {
     OriginalList,
 }
 
-pub const FAULTS: [Fault; 22] = [
+pub const FAULTS: [Fault; 24] = [
     Fault::OffsetOneOff,
     Fault::PositionOneOff,
     Fault::TableWord,
@@ -74,6 +79,8 @@ pub const FAULTS: [Fault; 22] = [
     Fault::OtherHalf,
     Fault::Rounding,
     Fault::FullGroups,
+    Fault::FirstReference,
+    Fault::EntryBetween,
     Fault::PortMemories,
     Fault::OriginalMemories,
     Fault::OriginalSize,
@@ -113,6 +120,7 @@ impl Fault {
     pub fn after(fault: Option<Fault>, answered: &mut Answered) {
         if let Some(fault) = fault {
             fault.in_memory(answered);
+            fault.in_depths(answered);
             fault.in_answer(&answered.call, &mut answered.answer);
         }
     }
@@ -144,6 +152,30 @@ impl Fault {
             _ => return,
         };
         after[place] ^= 1;
+    }
+
+    /// The depths in a built table are those of a wrong rule.
+    fn in_depths(self, answered: &mut Answered) {
+        let Answered { call, answer, .. } = answered;
+        let depth: fn(&Definition, &[u32]) -> u32 = match (self, call.function) {
+            (Fault::FirstReference, Function::Build) => over_first_reference,
+            (Fault::EntryBetween, Function::Build) => over_entry,
+            _ => return,
+        };
+        let after = &mut answered.after[0];
+        let lent = offset(0)..after.len() - offset(0);
+        let lent = &mut after[lent];
+        let mut table = words_of(lent);
+        let words = words_of(call.slices[0]);
+        let built = reading::definitions(&words, encode::accepted(*answer) as usize);
+        let mut depths = Vec::with_capacity(built.len());
+        for (index, definition) in built.iter().enumerate() {
+            depths.push(depth(definition, &depths));
+            let mut row = model::row(&table, index);
+            row[15] = row[15] % 2 + 2 * depths[index];
+            put_row(&mut table, index, &row);
+        }
+        lent[..4 * table.len()].copy_from_slice(&bytes_of(&table));
     }
 
     fn in_answer(self, call: &Call, answer: &mut u64) {
@@ -218,6 +250,20 @@ const BEYOND: usize = 4 * (MOST_WORDS + 1);
 /// Where a word of lent memory stands among its bytes, guards before it.
 fn offset(word: usize) -> usize {
     4 * (GUARD + word)
+}
+
+/// A definition's depth by the fault `FirstReference`, from those of the definitions before it.
+fn over_first_reference(definition: &Definition, before: &[u32]) -> u32 {
+    let first = definition.references().next();
+    let named = first.and_then(|word| before.get(word.checked_sub(64)? as usize));
+    1 + named.unwrap_or(&0)
+}
+
+/// The same by the fault `EntryBetween`.
+fn over_entry(definition: &Definition, before: &[u32]) -> u32 {
+    let deepest = definition.earlier().map(|index| before[index]).max();
+    let entry = u32::from(definition.kind == 5);
+    1 + entry + deepest.unwrap_or(0)
 }
 
 /// What a last group that is not full adds to the number that k chooses: four bytes, or one type.

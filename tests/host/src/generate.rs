@@ -1,7 +1,8 @@
-//! Random descriptions, references, infos and rows.
+//! Random descriptions, references, infos and rows; and a chain of definitions, which is not random.
 use crate::calls::Info;
 use crate::model::Row;
 use crate::random::Random;
+use std::ops::Range;
 
 /// What a random description looks like.
 #[derive(Clone, Copy)]
@@ -11,15 +12,46 @@ pub struct Shape {
     pub members: u64,
     /// Fixed lists whose sizes come near 4 GiB.
     pub large: bool,
+    /// Each definition that has references refers to the last of these before it.
+    pub deep: bool,
 }
 
-/// A description that is good but for its sizes: kinds, counts and references are all in order.
+/// A description that is good but for its sizes and its depth: kinds, counts and references are all in order.
 pub fn description(random: &mut Random, shape: Shape) -> Vec<u32> {
     let mut words = Vec::new();
+    let mut last_of_chain = None;
     for index in 0..shape.definitions {
+        let begin = words.len();
         definition(random, shape, index, &mut words);
+        let places = places_of_references(&words[begin..]);
+        if shape.deep && !places.is_empty() {
+            if let Some(last) = last_of_chain {
+                let place = random.between(places.start as u64, places.end as u64 - 1);
+                words[begin + place as usize] = 64 + last as u32;
+            }
+            last_of_chain = Some(index);
+        }
     }
     words
+}
+
+/// Where a definition's references stand among its words.
+fn places_of_references(definition: &[u32]) -> Range<usize> {
+    match definition[0] {
+        1 | 2 | 4 => 2..definition.len(),
+        6 | 7 => 0..0,
+        10 => 1..2,
+        _ => 1..definition.len(),
+    }
+}
+
+/// So many lists or options, by their kind word, the first of a scalar and each other of the one before.
+pub fn chain(kind: u32, scalar: u32, many: u32) -> Vec<u32> {
+    let on = |index: u32| match index {
+        0 => [kind, scalar],
+        _ => [kind, 64 + index - 1],
+    };
+    (0..many).flat_map(on).collect()
 }
 
 fn definition(random: &mut Random, shape: Shape, index: u64, words: &mut Vec<u32>) {
@@ -134,8 +166,8 @@ fn damage(random: &mut Random, words: &mut Vec<u32>) {
 /// Words near every boundary, and any at all.
 pub fn any_word(random: &mut Random) -> u32 {
     let edges = [
-        0, 8, 10, 11, 12, 13, 14, 16, 17, 18, 32, 33, 63, 64, 65, 255, 256, 257, 512, 513, 1_087,
-        1_088, 16_382, 16_384, 65_536, 65_537,
+        0, 8, 10, 11, 12, 13, 14, 16, 17, 18, 32, 33, 63, 64, 65, 163, 164, 200, 201, 202, 255,
+        256, 257, 512, 513, 1_087, 1_088, 16_382, 16_384, 65_536, 65_537,
     ];
     match random.below(6) {
         0 => random.word(),
@@ -230,6 +262,14 @@ pub fn row(random: &mut Random) -> Row {
     for word in &mut row[9..15] {
         *word = random.word();
     }
-    row[15] = random.below(2) as u32;
+    row[15] = depth_word(random);
     row
+}
+
+/// A good word 15, borrow plus twice the depth: often at an end of what is good.
+fn depth_word(random: &mut Random) -> u32 {
+    match random.once_in(4) {
+        true => random.pick(&[2, 3, 200, 201]),
+        false => random.between(2, 201) as u32,
+    }
 }

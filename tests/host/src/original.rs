@@ -118,7 +118,10 @@ pub fn ask(original: &mut Original, question: &Question) -> Outcome {
     let is = |answer: u64| Outcome::Is(answer, vec![]);
     match question {
         Question::Type { reference, k } => match original.reference(*reference) {
-            Some(ty) => is(original.numbers(&ty)[(*k as usize).min(7)].into()),
+            Some(ty) => is(match k {
+                0..=7 => original.numbers(&ty)[*k as usize].into(),
+                _ => original.depth(&ty).into(),
+            }),
             None => Outcome::Nothing,
         },
         Question::SizeAlign { memory, reference } => match original.reference(*reference) {

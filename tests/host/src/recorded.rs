@@ -27,12 +27,13 @@ use oracle::{Flat, Original, Side};
 
 const FORMAT: u32 = 1;
 const SEED: u64 = 1;
-/// The file stays below this many bytes.
-const MOST_BYTES: usize = 59_000;
+/// The file stays below this many bytes: with what 01 refuses after it, the list that `replay` reads has at
+/// most 65,536.
+const MOST_BYTES: usize = 61_000;
 
-/// Descriptions that stand in the list whatever the random ones are: 01's, order 4's, and one for
-/// each kind.
-const CHOSEN: [&[u32]; 25] = [
+/// Descriptions that stand in the list whatever the random ones are: 01's, order 4's, some that go deep, and
+/// one for each kind.
+const CHOSEN: [&[u32]; 28] = [
     &[],
     &[1, 0],
     &[1, 2, 2, 6],
@@ -58,6 +59,23 @@ const CHOSEN: [&[u32]; 25] = [
     &[2, 3, 4_294_967_295, 10, 12],
     &[1, 16, 6, 6, 6, 6, 6, 6, 6, 6, 6, 6, 6, 6, 6, 6, 6, 6, 8, 64],
     &[10, 12, 268_435_455],
+    &[3, 14, 1, 2, 64, 2, 5, 2, 65, 8, 66],
+    &[3, 2, 8, 64, 5, 64, 65, 5, 65, 64, 4, 3, 66, 64, 14],
+    &[
+        6,
+        40,
+        9,
+        4_294_967_295,
+        64,
+        2,
+        3,
+        64,
+        4_294_967_295,
+        65,
+        10,
+        66,
+        0,
+    ],
 ];
 
 pub fn write(file: &str) -> std::io::Result<String> {
@@ -66,11 +84,14 @@ pub fn write(file: &str) -> std::io::Result<String> {
     for words in CHOSEN {
         list.add(words, &mut random);
     }
+    // As deep as a type may go.
+    list.add(&generate::chain(3, 14, 100), &mut random);
     while 4 * list.words.len() < MOST_BYTES {
         let shape = Shape {
             definitions: random.pick(&[1, 1, 1, 2, 2, 3]),
             members: random.pick(&[2, 4, 7]),
             large: random.once_in(6),
+            deep: false,
         };
         let before = list.words.len();
         list.add(&generate::description(&mut random, shape), &mut random);

@@ -24,6 +24,9 @@ pub struct Tally {
     /// Where 01 refuses as too large: the original panicked, or gave 4294967295.
     pub panicked: u64,
     pub saturated: u64,
+    /// Where 01 refuses as too deep: the original went on, or panicked since it is too large as well.
+    pub went_on: u64,
+    pub panicked_too: u64,
     pub differences: u64,
     pub coverage: Coverage,
     pub section: &'static str,
@@ -50,6 +53,8 @@ impl Tally {
             original_rows: 0,
             panicked: 0,
             saturated: 0,
+            went_on: 0,
+            panicked_too: 0,
             differences: 0,
             coverage: Coverage::new(),
             section: "",
@@ -98,6 +103,12 @@ impl Tally {
         self.panicked += u64::from(panicked);
         self.saturated += u64::from(saturated && !panicked);
         self.consistent(panicked || saturated, report);
+    }
+
+    pub fn too_deep(&mut self, panicked: bool, went_on: bool, report: impl FnOnce() -> String) {
+        self.went_on += u64::from(went_on);
+        self.panicked_too += u64::from(panicked);
+        self.consistent(panicked || went_on, report);
     }
 
     /// Something that must hold and is not counted as an answer.
@@ -152,8 +163,8 @@ impl Tally {
         format!(
             "{} answers of the port compared with the model ({} by byte calls), {} of the original \
              with the model, {} apart (stand-ins), {} rows of the port and {} of the original compared in \
-             the two memories, {} refusals 6 where the original panicked and {} where it saturated, in {} \
-             s: {} differences",
+             the two memories, {} refusals 6 where the original panicked and {} where it saturated, {} \
+             refusals 9 where it went on and {} where it panicked, in {} s: {} differences",
             self.answers,
             self.by_bytes,
             self.original,
@@ -162,6 +173,8 @@ impl Tally {
             self.original_rows,
             self.panicked,
             self.saturated,
+            self.went_on,
+            self.panicked_too,
             self.began.elapsed().as_secs(),
             self.differences
         )

@@ -32,7 +32,7 @@ pub fn build(words: &[u32], table: &mut [u32]) -> Answer<u64> {
 }
 
 /// One definition's row, type and length in words. "NoRoom, BadKind, Truncated, BadCount, BadRef,
-/// TooLarge", in this order.
+/// TooLarge", in this order; order 5's TooDeep is "after BadRef and before TooLarge".
 fn definition(words: &[u32], earlier: &[Type], capacity: usize) -> Result<(Row, Type, usize), u64> {
     if earlier.len() == capacity {
         return Err(number::NO_ROOM);
@@ -45,6 +45,9 @@ fn definition(words: &[u32], earlier: &[Type], capacity: usize) -> Result<(Row, 
         if !(payloads_may_lack && *reference == NO_PAYLOAD) {
             members.push(resolve(*reference, earlier)?);
         }
+    }
+    if layout::depth_over(&members) > layout::DEEPEST {
+        return Err(number::TOO_DEEP);
     }
     let (ty, extra) = head
         .lay_out(&members)
@@ -116,7 +119,7 @@ impl<'a> Head<'a> {
     fn lay_out(&self, members: &[&Type]) -> Result<(Type, Extra), TooLarge> {
         Ok(match self.kind {
             1 | 4 => (layout::record(members)?, Extra::default()),
-            3 => (layout::pointer_pair(members[0].borrow), Extra::default()),
+            3 => (layout::list_or_map(members), Extra::default()),
             5 => map(members)?,
             6 => {
                 let flags = layout::flags(self.count).expect("the count was tested");
@@ -147,7 +150,6 @@ fn variant(cases: u64, payloads: &[&Type]) -> Result<(Type, Extra), TooLarge> {
 fn map(key_and_value: &[&Type]) -> Result<(Type, Extra), TooLarge> {
     let entry32 = layout::place_in(Memory::Bits32, key_and_value)?;
     let entry64 = layout::place_in(Memory::Bits64, key_and_value)?;
-    let borrow = key_and_value.iter().any(|part| part.borrow);
     let extra = Extra {
         offset: [entry32.starts[1], entry64.starts[1]],
         entry: [
@@ -158,5 +160,5 @@ fn map(key_and_value: &[&Type]) -> Result<(Type, Extra), TooLarge> {
         ],
         ..Extra::default()
     };
-    Ok((layout::pointer_pair(borrow), extra))
+    Ok((layout::list_or_map(key_and_value), extra))
 }

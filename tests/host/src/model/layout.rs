@@ -7,6 +7,8 @@ pub const LIMIT: u64 = 4_294_967_295;
 pub const FLAT_MAX: u64 = 16;
 /// Order 4: "5 now begins at 513".
 pub const MOST_LABELS: u64 = 512;
+/// Order 5: "9 TooDeep above 100".
+pub const DEEPEST: u64 = 100;
 
 #[derive(Clone, Copy, PartialEq, Eq, Debug)]
 pub enum Core {
@@ -48,13 +50,15 @@ pub struct Layout {
 /// The flat types in the two memories, equally many; None for 01's "none".
 pub type Flat = Option<[Vec<Core>; 2]>;
 
-/// What 01 says of a type: its layout and flat types in both memories, and whether it reaches a
-/// Borrow.
+/// What 01 says of a type: its layout and flat types in both memories, whether it reaches a Borrow, and
+/// how deep it goes.
 #[derive(Clone, PartialEq, Eq, Debug)]
 pub struct Type {
     pub layout: [Layout; 2],
     pub flat: Flat,
     pub borrow: bool,
+    /// 0 for a reference that names no definition.
+    pub depth: u64,
 }
 
 impl Type {
@@ -88,6 +92,19 @@ fn within_limit(place: u64) -> Result<u64, TooLarge> {
     }
 }
 
+// ---- what is reached ----------------------------------------------------------------------------
+
+/// Order 5: "one more than the deepest definition it refers to, 1 if it refers to none, list elements and
+/// map parts included."
+pub fn depth_over(parts: &[&Type]) -> u64 {
+    1 + parts.iter().map(|part| part.depth).max().unwrap_or(0)
+}
+
+/// "If a Borrow is reached through any reference, list elements too."
+fn borrow_in(parts: &[&Type]) -> bool {
+    parts.iter().any(|part| part.borrow)
+}
+
 // ---- types without parts ------------------------------------------------------------------------
 
 /// "Scalars: 1, 2, 4 or 8 bytes, alignment equal to size, flat 1."
@@ -96,15 +113,26 @@ fn scalar(size: u64, core: Core) -> Type {
         layout: [Layout { size, align: size }; 2],
         flat: Some([vec![core], vec![core]]),
         borrow: false,
+        depth: 0,
     }
 }
 
 /// "String, list, map: 8 with alignment 4, or 16 with alignment 8; flat 2."
-pub fn pointer_pair(borrow: bool) -> Type {
+fn pointer_pair() -> Type {
     Type {
         layout: [Layout { size: 8, align: 4 }, Layout { size: 16, align: 8 }],
         flat: Some(MEMORIES.map(|memory| vec![memory.pointer(); 2])),
-        borrow,
+        borrow: false,
+        depth: 0,
+    }
+}
+
+/// A list of its element, or a map of its key and value.
+pub fn list_or_map(parts: &[&Type]) -> Type {
+    Type {
+        borrow: borrow_in(parts),
+        depth: depth_over(parts),
+        ..pointer_pair()
     }
 }
 
@@ -124,7 +152,7 @@ static SCALARS: LazyLock<[Type; 18]> = LazyLock::new(|| {
         scalar(4, Core::F32), // Float32
         scalar(8, Core::F64), // Float64
         scalar(4, Core::I32), // Char
-        pointer_pair(false),  // String
+        pointer_pair(),       // String
         handle(),             // Own
         Type {
             borrow: true,
@@ -144,30 +172,26 @@ pub fn scalar_of(reference: u32) -> Option<&'static Type> {
 /// flat 1." Order 4: "above 32, alignment 4, size four bytes and one flat I32 for each started group of 32
 /// labels", up to 512 labels. None above.
 pub fn flags(count: u64) -> Option<Type> {
-    match count {
-        0 => Some(Type {
-            layout: [Layout { size: 0, align: 1 }; 2],
-            flat: Some([vec![], vec![]]),
-            borrow: false,
-        }),
-        1..=8 => Some(scalar(1, Core::I32)),
-        9..=16 => Some(scalar(2, Core::I32)),
-        17..=32 => Some(scalar(4, Core::I32)),
-        33..=MOST_LABELS => Some(groups(count)),
-        _ => None,
-    }
+    let (size, align, flat) = match count {
+        0 => (0, 1, 0),
+        1..=8 => (1, 1, 1),
+        9..=16 => (2, 2, 1),
+        17..=32 => (4, 4, 1),
+        33..=MOST_LABELS => (4 * groups(count), 4, groups(count)),
+        _ => return None,
+    };
+    let flat = vec![Core::I32; flat as usize];
+    Some(Type {
+        layout: [Layout { size, align }; 2],
+        flat: Some([flat.clone(), flat]),
+        borrow: false,
+        depth: depth_over(&[]),
+    })
 }
 
 /// The labels 0, 32, 64 and so on start a group each.
-fn groups(count: u64) -> Type {
-    let started = (0..count).step_by(32).count();
-    let size = 4 * started as u64;
-    let flat = vec![Core::I32; started];
-    Type {
-        layout: [Layout { size, align: 4 }; 2],
-        flat: Some([flat.clone(), flat]),
-        borrow: false,
-    }
+fn groups(count: u64) -> u64 {
+    (0..count).step_by(32).count() as u64
 }
 
 /// "Discriminant 1 byte for n up to 256, 2 up to 65,536, else 4."
@@ -230,7 +254,8 @@ pub fn record(members: &[&Type]) -> Result<Type, TooLarge> {
     Ok(Type {
         layout: [layout32, layout64],
         flat: append(members),
-        borrow: members.iter().any(|member| member.borrow),
+        borrow: borrow_in(members),
+        depth: depth_over(members),
     })
 }
 
@@ -268,7 +293,8 @@ pub fn variant(cases: u64, payloads: &[&Type]) -> Result<Variant, TooLarge> {
         whole: Type {
             layout: [layout32, layout64],
             flat: join_payloads(payloads),
-            borrow: payloads.iter().any(|payload| payload.borrow),
+            borrow: borrow_in(payloads),
+            depth: depth_over(payloads),
         },
         discriminant,
         payload_offset: [offset32, offset64],
@@ -342,6 +368,7 @@ pub fn fixed_list(element: &Type, count: u64) -> Result<Type, TooLarge> {
         layout: [of(Memory::Bits32)?, of(Memory::Bits64)?],
         flat: repeat(element.flat.as_ref(), count),
         borrow: element.borrow,
+        depth: depth_over(&[element]),
     })
 }
 

@@ -88,7 +88,8 @@ fn flat_word(count: Option<u64>) -> u64 {
     count.unwrap_or(NO_FLAT_COUNT)
 }
 
-/// An info as a type, or BadRow. Of its flat types only the number is known and asked for.
+/// An info as a type, or BadRow. Of its flat types only the number is known and asked for, and no leaf is
+/// asked for a depth.
 fn type_of(info: &Info) -> Result<Type, u64> {
     let (layout, flat_count) = row::five_numbers(*info)?;
     let flat = flat_count.map(|count| {
@@ -99,6 +100,7 @@ fn type_of(info: &Info) -> Result<Type, u64> {
         layout,
         flat,
         borrow: false,
+        depth: 0,
     })
 }
 

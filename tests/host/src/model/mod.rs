@@ -20,7 +20,7 @@ pub use layout::Core;
 pub use leaf::leaf;
 pub use question::ask;
 pub use row::{BY_MEMORY, never_smaller, well_formed};
-pub use table::{Row, capacity, row, table_of};
+pub use table::{Row, capacity, put_row, row, table_of};
 
 /// A call that was refused: 01's number, and the definition's index or the reference's position.
 #[derive(Clone, Copy, PartialEq, Eq, Debug)]
@@ -41,6 +41,7 @@ pub mod number {
     pub const TOO_LARGE: u64 = 6;
     pub const NO_ROOM: u64 = 7;
     pub const BAD_ROW: u64 = 8;
+    pub const TOO_DEEP: u64 = 9;
 }
 
 /// "A description has 0 to 16,384 words"; a question takes no more references than that.

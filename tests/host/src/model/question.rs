@@ -25,7 +25,8 @@ pub fn ask(
                 0..=4 => info_number(ty, *k),
                 5 => flat32,
                 6 => flat64,
-                _ => u64::from(ty.borrow),
+                7 => u64::from(ty.borrow),
+                _ => ty.depth,
             })
         }
         Question::SizeAlign { memory, reference } => {

@@ -30,7 +30,8 @@ pub fn write(kind: u32, ty: &Type, extra: &Extra) -> Row {
     row[8] = extra.discriminant;
     row[9..11].copy_from_slice(&extra.offset);
     row[11..15].copy_from_slice(&extra.entry);
-    row[15] = u64::from(ty.borrow);
+    // Order 5: "borrow plus twice the depth".
+    row[15] = u64::from(ty.borrow) + 2 * ty.depth;
     row.map(|word| u32::try_from(word).expect("a row's numbers fit in words"))
 }
 
@@ -63,21 +64,22 @@ fn unpack(word: u32, count: u64) -> Vec<Core> {
 
 /// A row's type, or BadRow: "A row is well formed when: kind is 1 to 10; alignments are 1, 2, 4 or
 /// 8; each size is a multiple of its alignment; flat count is 0 to 16 or 255; unused flat bits are
-/// zero; word 8 is 0, 1, 2 or 4; word 15 is 0 or 1. Nothing else in a row is tested."
+/// zero; word 8 is 0, 1, 2 or 4", and by order 5 "2 to 201" in word 15. "Nothing else in a row is tested."
 pub fn read(row: &Row) -> Result<Type, u64> {
     let (layouts, flat_count) = five_numbers([row[1], row[2], row[3], row[4], row[5]])?;
     let flat = flat_count.map(|count| [unpack(row[6], count), unpack(row[7], count)]);
     let well_formed = (1..=10).contains(&row[0])
         && flat_words(&flat) == [u64::from(row[6]), u64::from(row[7])]
         && [0, 1, 2, 4].contains(&row[8])
-        && row[15] <= 1;
+        && (2..=201).contains(&row[15]);
     if !well_formed {
         return Err(number::BAD_ROW);
     }
     Ok(Type {
         layout: layouts,
         flat,
-        borrow: row[15] == 1,
+        borrow: row[15] % 2 == 1,
+        depth: u64::from(row[15] / 2),
     })
 }
 

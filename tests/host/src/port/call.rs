@@ -52,7 +52,7 @@ impl Function {
             Function::FixedLengthList => Some((6, 4)),
             Function::Record => Some((0, 4)),
             Function::Variant => Some((0, 7)),
-            Function::Type => Some((2, 7)),
+            Function::Type => Some((2, 8)),
             Function::AsyncStart => Some((4, 1)),
             Function::AsyncReturn => Some((5, 1)),
             _ => None,

@@ -1,7 +1,9 @@
-//! 01's examples and order 4's, with the papers' own numbers written out, and whole tables in order 11's
-//! columns. What the three say is compared as anywhere; here the model's answers are held to the papers too.
+//! 01's examples and order 4's, with the papers' own numbers written out, depths by order 5's rule, and whole
+//! tables in order 11's columns. What the three say is compared as anywhere; here the model's answers are held
+//! to the papers too.
 use crate::calls::{Question, Side};
 use crate::compare::{Built, Run, Subject};
+use crate::generate::chain;
 use crate::model::{Answer, Refused};
 use crate::{encode, model};
 
@@ -12,6 +14,8 @@ const U64: u32 = 8;
 const F32: u32 = 9;
 const F64: u32 = 10;
 const STRING: u32 = 12;
+const BORROW: u32 = 14;
+const MARK: u32 = u32::MAX;
 
 /// Words of a row that an example tells.
 const SIZE_ALIGN: [usize; 4] = [1, 2, 3, 4];
@@ -29,6 +33,9 @@ pub fn run(run: &mut Run) {
     row_is(run, &built, 2, &[0, 1, 2, 3, 4, 5], &[8, 20, 4, 32, 8, 6]);
     super::questions::every(run, &mut built.subject);
     columns(run);
+    depths(run);
+    chains(run);
+    depths_read(run);
 }
 
 fn records(run: &mut Run) {
@@ -166,7 +173,7 @@ fn columns(run: &mut Run) {
     // 33 words are a capacity of 2, and the last of them is in no run.
     let both = [
         3, 8, 8, 2, 4, 1, 16, 2, 8, 1, 2, 2, 0, 0, 5, 0, 0, 1, 0, 1, 0, 1, 0, 0, 0, 0, 0, 0, 0, 0,
-        0, 0, LENT,
+        2, 2, LENT,
     ];
     table_is(run, &[3, U8, 8, U8], Ok(2), &both);
     // "A refused build leaves earlier entries of each run written, all else as it was."
@@ -178,7 +185,7 @@ fn columns(run: &mut Run) {
     table_is(run, &[3, U8, 99, U8], Err(refused), &first);
     // 31 words are a capacity of 1, so each run is one word long.
     let mut alone = [LENT; 31];
-    alone[..16].copy_from_slice(&[3, 8, 4, 16, 8, 2, 0, 5, 0, 0, 0, 0, 0, 0, 0, 0]);
+    alone[..16].copy_from_slice(&[3, 8, 4, 16, 8, 2, 0, 5, 0, 0, 0, 0, 0, 0, 0, 2]);
     table_is(run, &[3, U8], Ok(1), &alone);
     // Cut to 31 words, the table of both has other cells: row 0 has for 64 a size of 2 and an alignment of 4.
     let mut cut = run.forged(both[..31].to_vec(), 1);
@@ -187,6 +194,116 @@ fn columns(run: &mut Run) {
         k: 0,
     };
     answer_is(run, &mut cut, &question, 8 << 56);
+}
+
+/// Order 5: "one more than the deepest definition it refers to, 1 if it refers to none", and a word 15 of
+/// "borrow plus twice the depth".
+fn depths(run: &mut Run) {
+    // Of each kind one that refers to no definition.
+    for words in [
+        &[1, 0][..],
+        &[1, 2, U8, STRING],
+        &[2, 2, MARK, U8],
+        &[3, U8],
+        &[4, 1, U64],
+        &[5, U8, STRING],
+        &[6, 40],
+        &[7, 3],
+        &[8, U8],
+        &[9, MARK, MARK],
+        &[10, U8, 0],
+    ] {
+        words_15_are(run, words, &[2]);
+    }
+    // "List elements and map parts included."
+    words_15_are(run, &[3, BORROW], &[3]);
+    words_15_are(run, &[3, U8, 3, 64, 8, 65], &[2, 4, 6]);
+    words_15_are(
+        run,
+        &[3, U8, 5, 64, U8, 5, U8, 64, 5, 64, 64],
+        &[2, 4, 4, 4],
+    );
+    words_15_are(run, &[3, U8, 8, 64, 5, 64, 65, 5, 65, 64], &[2, 4, 6, 6]);
+    // The Borrow and the depth come from different members.
+    words_15_are(run, &[3, U8, 3, 64, 1, 2, 65, BORROW], &[2, 4, 7]);
+    words_15_are(run, &[3, BORROW, 3, U8, 3, 65, 4, 2, 64, 66], &[3, 2, 4, 7]);
+    // The deepest member is the first, the last, or the same many times.
+    words_15_are(run, &[3, U8, 3, 64, 1, 3, 65, 64, U8], &[2, 4, 6]);
+    words_15_are(run, &[3, U8, 3, 64, 2, 3, MARK, 64, 65], &[2, 4, 6]);
+    words_15_are(run, &[3, U8, 1, 4, 64, 64, 64, 64], &[2, 4]);
+    words_15_are(run, &[6, 9, 9, MARK, 64, 9, 64, 65], &[2, 4, 6]);
+    words_15_are(run, &[3, BORROW, 10, 64, 0], &[3, 5]);
+}
+
+/// Accepts, and has these as word 15 of its rows.
+fn words_15_are(run: &mut Run, words: &[u32], numbers: &[u32]) {
+    let mut built = accepted(run, words, numbers.len() as u64);
+    for (row, number) in numbers.iter().enumerate() {
+        row_is(run, &built, row, &[15], &[*number]);
+        super::questions::whole_type(run, &mut built.subject, 64 + row as u32);
+    }
+}
+
+/// Order 5: "9 TooDeep above 100, after BadRef and before TooLarge".
+fn chains(run: &mut Run) {
+    for (scalar, last) in [(U8, 200), (BORROW, 201)] {
+        let built = accepted(run, &chain(3, scalar, 100), 100);
+        row_is(run, &built, 99, &[15], &[last]);
+        refused(run, &chain(3, scalar, 101), 9, 100);
+        refused(run, &chain(3, scalar, 1_024), 9, 100);
+    }
+    let on_top = |definition: &[u32]| [&chain(3, U8, 100)[..], definition].concat();
+    refused(run, &on_top(&[1, 2, 163, 18]), 4, 100);
+    refused(run, &on_top(&[1, 2, 18, 163]), 4, 100);
+    let large = [10, U8, u32::MAX, 1, 3, 164, 164];
+    refused(run, &on_top(&[&large[..], &[163]].concat()), 9, 101);
+    refused(run, &on_top(&[&large[..], &[162]].concat()), 6, 101);
+    // Earlier rows are written, and nothing else: the last of 101 entries of each run keeps its value.
+    let mut table = vec![];
+    for number in [3, 8, 4, 16, 8, 2, 0, 5, 0, 0, 0, 0, 0, 0, 0] {
+        table.extend([number; 100]);
+        table.push(LENT);
+    }
+    table.extend((1..=100).map(|depth| 2 * depth));
+    table.push(LENT);
+    let too_deep = Refused { number: 9, at: 100 };
+    table_is(run, &chain(3, U8, 101), Err(too_deep), &table);
+}
+
+/// Order 5: "a well-formed row has 2 to 201 there". The type question answers the borrow for 7 and the depth
+/// from 8 on; a reference that is no definition has depth 0.
+fn depths_read(run: &mut Run) {
+    const BAD: u64 = 8 << 56;
+    for (word, [borrow, depth]) in [
+        (0, [BAD; 2]),
+        (1, [BAD; 2]),
+        (2, [0, 1]),
+        (3, [1, 1]),
+        (4, [0, 2]),
+        (200, [0, 100]),
+        (201, [1, 100]),
+        (202, [BAD; 2]),
+        (203, [BAD; 2]),
+        (1 << 31, [BAD; 2]),
+        (u32::MAX, [BAD; 2]),
+    ] {
+        let row = [3, 8, 4, 16, 8, 2, 0, 5, 0, 0, 0, 0, 0, 0, 0, word];
+        let mut subject = run.forged(row.to_vec(), 1);
+        for (k, answer) in [(7, borrow), (8, depth), (9, depth), (u32::MAX, depth)] {
+            let reference = 64;
+            answer_is(run, &mut subject, &Question::Type { reference, k }, answer);
+        }
+        let references = vec![64];
+        let question = Question::ContainsBorrow { references };
+        answer_is(run, &mut subject, &question, borrow);
+    }
+    let mut none = accepted(run, &[], 0);
+    for (reference, borrow) in [(U8, 0), (STRING, 0), (BORROW, 1), (17, 0)] {
+        for (k, answer) in [(7, borrow), (8, 0), (u32::MAX, 0)] {
+            let question = Question::Type { reference, k };
+            answer_is(run, &mut none.subject, &question, answer);
+        }
+    }
 }
 
 /// Builds in a table of as many words as these, which it must hold then.

@@ -1,5 +1,5 @@
-//! Every limit: words, rows, depth, references, buffers, bytes.
-use super::questions;
+//! Every limit but the depth: words, rows, references, buffers, bytes.
+use super::{depth, questions};
 use crate::calls::{Question, Side};
 use crate::compare::{Run, Subject, bytes_of};
 use crate::generate::{self, Shape};
@@ -7,7 +7,7 @@ use crate::model::{MOST_ROWS, MOST_WORDS, ROW};
 
 pub fn descriptions(run: &mut Run) {
     long(run);
-    deep(run);
+    depth::run(run);
     // As many definitions as there are rows, one fewer and one more.
     for many in [MOST_ROWS - 1, MOST_ROWS, MOST_ROWS + 1, MOST_ROWS + 2] {
         for definition in [
@@ -32,6 +32,7 @@ pub fn descriptions(run: &mut Run) {
             definitions: run.random.between(900, 1_100),
             members: run.random.between(1, 20),
             large: false,
+            deep: false,
         };
         let words = generate::description(&mut run.random, shape);
         let mut built = run.description(&words[..words.len().min(MOST_WORDS)]);
@@ -78,46 +79,6 @@ fn long(run: &mut Run) {
         }
         run.description(&[kind]);
         run.description(&[1, 0, kind]);
-    }
-}
-
-/// 1,024 definitions, each on the one before.
-fn deep(run: &mut Run) {
-    let bases: [&[u32]; 4] = [&[1, 0], &[10, 14, 1], &[1, 1, 8], &[3, 14]];
-    // `previous` is put for 0 in these.
-    let steps: [&[u32]; 9] = [
-        &[1, 1, 0],
-        &[4, 1, 0],
-        &[3, 0],
-        &[5, 0, 0],
-        &[8, 0],
-        &[9, 0, 0],
-        &[10, 0, 1],
-        &[2, 2, 0, 0],
-        &[1, 2, 0, 0],
-    ];
-    let depth = MOST_ROWS as u32;
-    for base in bases {
-        for step in steps {
-            let mut words = base.to_vec();
-            for index in 1..depth {
-                // The kind and the count stay, references follow; a fixed list's count comes last.
-                let (head, tail) = match step[0] {
-                    1 | 2 | 4 => step.split_at(2),
-                    _ => step.split_at(1),
-                };
-                words.extend(head);
-                let previous = 64 + index - 1;
-                words.extend(
-                    tail.iter()
-                        .map(|word| if *word == 0 { previous } else { *word }),
-                );
-            }
-            let mut built = run.description(&words);
-            let last = 64 + built.subject.n - 1;
-            questions::whole_type(run, &mut built.subject, last);
-            questions::lists(run, &mut built.subject, &[last, 64], &[last]);
-        }
     }
 }
 

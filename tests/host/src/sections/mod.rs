@@ -2,6 +2,7 @@
 use crate::compare::Run;
 
 mod beyond;
+mod depth;
 mod examples;
 mod leaves;
 mod limits;

@@ -28,9 +28,9 @@ pub fn every(run: &mut Run, subject: &mut Subject) {
     lists(run, subject, &[], &[]);
 }
 
-/// The eight numbers of one reference, and its size and alignment.
+/// The nine numbers of one reference, the last also by a k above it, and its size and alignment.
 pub fn whole_type(run: &mut Run, subject: &mut Subject, reference: u32) {
-    for k in 0..9 {
+    for k in 0..10 {
         run.ask(subject, &Question::Type { reference, k });
     }
     for memory in [0, 1] {

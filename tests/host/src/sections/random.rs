@@ -6,8 +6,11 @@ use crate::model::ROW;
 
 pub fn run(run: &mut Run) {
     for _ in 0..run.cases {
+        let deep = run.random.once_in(40);
         let shape = Shape {
             definitions: match run.random.below(30) {
+                // Long enough that some of these go deeper than 100 and some do not.
+                _ if deep => run.random.between(90, 200),
                 0 => run.random.between(20, 200),
                 _ => run.random.between(1, 8),
             },
@@ -16,6 +19,7 @@ pub fn run(run: &mut Run) {
                 _ => run.random.between(1, 6),
             },
             large: run.random.once_in(6),
+            deep,
         };
         let words = generate::description(&mut run.random, shape);
         let mut built = run.description(&words);

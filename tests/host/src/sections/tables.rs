@@ -7,6 +7,7 @@ use crate::model::{self, MOST_ROWS, ROW, Row, capacity, table_of};
 
 pub fn run(run: &mut Run) {
     each_word(run);
+    depth_words(run);
     for _ in 0..run.cases / 4 {
         let rows = run.random.below(6);
         let rows = rows_of(run, rows);
@@ -49,6 +50,7 @@ fn built_and_changed(run: &mut Run) {
         definitions: run.random.between(1, 6),
         members: run.random.between(1, 5),
         large: run.random.once_in(4),
+        deep: false,
     };
     let words = generate::description(&mut run.random, shape);
     let built = run.description(&words);
@@ -67,6 +69,7 @@ fn lent_otherwise(run: &mut Run) {
         definitions: run.random.between(1, 6),
         members: run.random.between(1, 5),
         large: false,
+        deep: false,
     };
     let words = generate::description(&mut run.random, shape);
     let Subject { table, n, .. } = run.description(&words).subject;
@@ -89,15 +92,15 @@ fn rows_of(run: &mut Run, rows: u64) -> Vec<Row> {
     (0..rows).map(|_| generate::row(&mut run.random)).collect()
 }
 
-/// Well-formed rows: five flat types, three, sixteen, and none.
+/// Well-formed rows: five flat types, three, sixteen, and none; depths of 1 and of 100.
 const GOOD: [Row; 4] = [
-    [1, 16, 4, 24, 8, 5, 0, 0x15, 0, 0, 0, 0, 0, 0, 0, 1],
-    [9, 16, 8, 24, 8, 3, 4, 20, 1, 8, 8, 0, 0, 0, 0, 0],
+    [1, 16, 4, 24, 8, 5, 0, 0x15, 0, 0, 0, 0, 0, 0, 0, 3],
+    [9, 16, 8, 24, 8, 3, 4, 20, 1, 8, 8, 0, 0, 0, 0, 2],
     SIXTEEN,
-    [4, 68, 4, 68, 4, 255, 0, 0, 0, 0, 0, 0, 0, 0, 0, 0],
+    [4, 68, 4, 68, 4, 255, 0, 0, 0, 0, 0, 0, 0, 0, 0, 201],
 ];
 const SIXTEEN: Row = {
-    let mut row = [10, 64, 4, 64, 4, 16, 0, 0, 0, 0, 0, 0, 0, 0, 0, 0];
+    let mut row = [10, 64, 4, 64, 4, 16, 0, 0, 0, 0, 0, 0, 0, 0, 0, 200];
     (row[6], row[7]) = (0xAAAA_AAAA, u32::MAX);
     row
 };
@@ -106,6 +109,7 @@ const SIXTEEN: Row = {
 fn each_word(run: &mut Run) {
     let values = (0..=34).chain([63, 64, 127, 128, 255, 256, 257, 511, 1 << 16, 1 << 31]);
     let values: Vec<u32> = values
+        .chain(199..=204)
         .chain([u32::MAX - 7, u32::MAX - 1, u32::MAX])
         .collect();
     for row in GOOD {
@@ -114,15 +118,32 @@ fn each_word(run: &mut Run) {
                 let mut row = row;
                 row[place] = *value;
                 let mut subject = run.forged(exact(&[row]), 1);
-                for k in 0..8 {
-                    let reference = 64;
-                    run.ask(&mut subject, &Question::Type { reference, k });
-                }
+                questions::whole_type(run, &mut subject, 64);
                 questions::lists(run, &mut subject, &[2, 64], &[64, 18]);
             }
         }
         each_flat_bit(run, row);
     }
+}
+
+/// Word 15 around both ends of what is good, and words whose low bits alone are good: every question, over
+/// bytes too, of a list that names such a row at its end, in the other list, and not at all.
+fn depth_words(run: &mut Run) {
+    let usual = std::mem::replace(&mut run.bytes_once_in, 1);
+    let large = [258, 1 << 16 | 2, 1 << 31, 1 << 31 | 2, 1 << 31 | 200];
+    let words = (0..=6).chain(196..=206).chain(large);
+    for word in words.chain([u32::MAX - 1, u32::MAX]) {
+        for row in GOOD {
+            let mut changed = row;
+            changed[15] = word;
+            let mut subject = run.forged(exact(&[row, changed]), 2);
+            questions::whole_type(run, &mut subject, 65);
+            questions::lists(run, &mut subject, &[64, 65], &[2]);
+            questions::lists(run, &mut subject, &[64], &[2, 65]);
+            questions::lists(run, &mut subject, &[64], &[64]);
+        }
+    }
+    run.bytes_once_in = usual;
 }
 
 /// Each flat count with each bit of the flat words set by itself.

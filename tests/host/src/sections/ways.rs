@@ -25,6 +25,7 @@ fn lists(run: &mut Run) {
         definitions: u64::from(ROWS),
         members: 3,
         large: false,
+        deep: false,
     };
     let words = generate::description(&mut run.random, shape);
     let mut built = run.description(&words);
@@ -58,11 +59,14 @@ fn lists_in(run: &mut Run, subject: &mut Subject) {
     }
 }
 
-/// As many definitions as so many words hold, the last of them whole, cut or refused, in tables with room for all and for fewer.
+/// As many definitions as so many words hold, each on the one before or on none, the last of them whole, cut or refused, in tables
+/// with room for all and for fewer.
 fn builds(run: &mut Run) {
     for length in WORDS - 3..=WORDS + 3 {
-        for definition in [&[1, 0][..], &[6, 9], &[8, 8], &[10, 12, 3]] {
-            let mut words = definition.repeat(length);
+        let alike = [&[1, 0][..], &[6, 9], &[8, 8], &[10, 12, 3]];
+        let alike = alike.map(|definition| definition.repeat(length));
+        let chain = generate::chain(3, 14, length as u32);
+        for mut words in alike.into_iter().chain([chain]) {
             words.truncate(length);
             let mut refused = words.clone();
             refused[length - 2] = 99;

@@ -12,14 +12,14 @@ plain-info-requires c κs = search needs
 
 returns : tie.Need-returns
 unfolding memberLook
-returns c = rw (lt-leb 64 (c .before .before .before .args .reference) (c .before .if1 .taken)) (c .plain-info .ensures .0)
+returns c = rw (lt-leb 64 (c .before .before .before .args .reference) (c .before .if1 .taken)) (c .plain-info .ensures)
 
 row-info-requires : tie.Need-row-info-requires
 row-info-requires c κs = search needs
 
 returns-2 : tie.Need-returns-2
 unfolding memberLook
-returns-2 c = rw (le-leb 64 (c .before .before .before .before .before .args .reference) (c .before .before .before .if1 .left), lt-ltb _ _ (c .before .if2 .taken)) (ap is (c .row-info .ensures .0))
+returns-2 c = rw (le-leb 64 (c .before .before .before .before .before .args .reference) (c .before .before .before .if1 .left), lt-ltb _ _ (c .before .if2 .taken)) (ap is (c .row-info .ensures))
 
 returns-3 : tie.Need-returns-3
 unfolding memberLook

@@ -1,7 +1,7 @@
 -- The count is refused, or the row of its layout.
 use Rattle.canon.specs.Answer.{is, andThen}
 use Rattle.canon.specs.Layout.{mem32, mem64, both}
-use Rattle.canon.specs.Reach.{noReach, wordReach}
+use Rattle.canon.specs.Reach.{noReach, wordReach, deeper}
 use Rattle.canon.specs.Row.{noInner, rowWords}
 use Rattle.types.specs.Leaves.{flagsAnswer}
 use Rattle.types.specs.Means.{abiMeans, infoAnswerMeans, layoutsMeans}
@@ -36,13 +36,13 @@ unfolding andThen flagsRow
 returns c = simp (← c .before .before .before .flags .ensures, c .before .why .given .1)
 
 returns-2 : tie.Need-returns-2
-unfolding flagsRow wordReach
+unfolding flagsRow wordReach deeper
 returns-2 c =
     let i = c .before .before .before .before .abi .given in
     let n = c .before .before .before .before .before .before .before .args .count in
     let words = c .before .flags2 .ensures in
     c .row-of .ensures
-    ∙ (λ j. is (rowWords 6 (layoutsMeans (c .before .before .layouts .ensures j)) (pairOf (words mem32 j) (words mem64 j)) (both (λ m. noInner)) noReach))
+    ∙ (λ j. is (rowWords 6 (layoutsMeans (c .before .before .layouts .ensures j)) (pairOf (words mem32 j) (words mem64 j)) (both (λ m. noInner)) (deeper noReach)))
     ∙ sym (then-is (flagsAnswer n) (abiMeans (i .0 .0)) _ (sym (c .before .before .before .before .before .before .flags .ensures) ∙ ap infoAnswerMeans (i .1)))
 
 pub flags-row-spec : {M : Type 1} → statement M

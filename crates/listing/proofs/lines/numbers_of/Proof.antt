@@ -16,7 +16,7 @@ returns : tie.Need-returns
 returns c =
     let a = c .before .before .before .args in
     let i = c .before .row-info in
-    numbers-read (rowIn (now (a .table)) (a .index .0)) (i .result) (i .ensures .0) (a .index .0) (c .row-kind .ensures)
+    numbers-read (rowIn (now (a .table)) (a .index .0)) (i .result) (i .ensures) (a .index .0) (c .row-kind .ensures)
 
 pub numbers-of-spec : {M : Type 1} → statement M
 numbers-of-spec = tie.close (tie.spec row-info-requires row-kind-requires returns)

@@ -33,7 +33,7 @@ returns c =
     let a = c .before .before .before .before .before .before .before .before .before .before .before .before .before .before .before .before .args in
     let i = c .before .before .before .before .before .before .before .before .before .before .before .before .before .row-info in
     let p = puts-then (puts-then (c .before .before .before .before .before .before .before .before .before .before .put-all-spaced .ensures) (c .before .before .before .before .before .before .put-flat .ensures)) (c .before .before .put-byte .ensures) in
-    puts-as (rw (c .before .before .before .before .before .before .before .before .before .before .before .numbers-of .ensures, count-read (rowIn (now (a .table)) (a .index .0)) (i .result) (i .ensures .0))) (omega arith) p
+    puts-as (rw (c .before .before .before .before .before .before .before .before .before .before .before .numbers-of .ensures, count-read (rowIn (now (a .table)) (a .index .0)) (i .result) (i .ensures))) (omega arith) p
 
 pub put-row-spec : {M : Type 1} → statement M
 put-row-spec =

@@ -16,11 +16,11 @@ enum-told c = search needs
 
 returns : tie.Need-returns
 unfolding read
-returns c = simp (lt-leb _ _ (c .before .before .before .before .if1 .taken), ← c .before .before .before .plain-info .ensures .0, c .before .info .given .1)
+returns c = simp (lt-leb _ _ (c .before .before .before .before .if1 .taken), ← c .before .before .before .plain-info .ensures, c .before .info .given .1)
 
 returns-2 : tie.Need-returns-2
 unfolding read
-returns-2 c = simp (lt-leb _ _ (c .before .before .before .if1 .taken), ← c .before .before .plain-info .ensures .0, c .enum-told .given .1)
+returns-2 c = simp (lt-leb _ _ (c .before .before .before .if1 .taken), ← c .before .before .plain-info .ensures, c .enum-told .given .1)
 
 row-named-requires : tie.Need-row-named-requires
 row-named-requires c κs = search needs
@@ -35,10 +35,10 @@ enum-known-why : tie.Need-enum-known-why
 enum-known-why c = search needs
 
 returns-3 : tie.Need-returns-3
-returns-3 c = rw (← c .before .before .before .before .row-named .ensures .0, c .before .before .index .given .1, c .row-info .ensures .0)
+returns-3 c = rw (← c .before .before .before .before .row-named .ensures, c .before .before .index .given .1, c .row-info .ensures)
 
 returns-4 : tie.Need-returns-4
-returns-4 c = rw (← c .before .before .before .row-named .ensures .0, c .before .why .given .1)
+returns-4 c = rw (← c .before .before .before .row-named .ensures, c .before .why .given .1)
 
 pub read-spec : {M : Type 1} → statement M
 read-spec =

@@ -16,11 +16,21 @@ word64-requires c κs = search needs
 is-borrow-requires : tie.Need-is-borrow-requires
 is-borrow-requires c κs = search needs
 
+depth-requires : tie.Need-depth-requires
+depth-requires c κs = search needs
+
 returns : tie.Need-returns
 unfolding wordReach
-returns c = simp (c .before .before .before .flat-count .ensures, c .before .before .word32 .ensures, c .before .word64 .ensures, c .is-borrow .ensures)
+returns c =
+    simp (
+      c .before .before .before .before .flat-count .ensures,
+      c .before .before .before .word32 .ensures,
+      c .before .before .word64 .ensures,
+      c .before .is-borrow .ensures,
+      c .depth .ensures,
+    )
 
 pub type-info-spec : {M : Type 1} → statement M
 type-info-spec =
     tie.close
-    (tie.spec flat-count-requires word32-requires word64-requires is-borrow-requires returns)
+    (tie.spec flat-count-requires word32-requires word64-requires is-borrow-requires depth-requires returns)

@@ -6,9 +6,8 @@ use denote.Ref.{now}
 use lib.ListN.{length, getD}
 use Rattle.canon.specs.Answer.{ok, then}
 use Rattle.canon.specs.Pack.{pack}
-use Rattle.canon.specs.Reach.{reachWord}
 use Rattle.canon.specs.Row.{Info}
-use Rattle.canon.specs.Question.{read, reachAll}
+use Rattle.canon.specs.Question.{read, anyBorrow}
 use Rattle.canon.specs.Signature.{flatAll}
 use Rattle.types.specs.Means.{memoryOf, numberOf}
 use Rattle.flat_types.specs.Lists.{packedTo}
@@ -30,7 +29,7 @@ abbrev μ-loop : tie.MeasureT-loop
 μ-loop memory table n references all₀ k₀ all k = length references - k
 
 loop-holds : tie.Need-loop-holds Inv-loop μ-loop
-unfolding packedTo flatAll reachAll reachWord pack
+unfolding packedTo flatAll anyBorrow pack
 loop-holds c = let a = c .before .before .args in
     (search needs, ([], begins (read (now (a .table)) (a .n)) (now (a .references)), refl))
 
@@ -52,8 +51,8 @@ with-requires c κs = search needs
 enum-known-why : tie.Need-enum-known-why Inv-loop μ-loop
 enum-known-why c = search needs
 
-cast-t16 : tie.Need-cast-t16 Inv-loop μ-loop
-cast-t16 c = search needs
+cast-t15 : tie.Need-cast-t15 Inv-loop μ-loop
+cast-t15 c = search needs
 
 returns : tie.Need-returns Inv-loop μ-loop
 unfolding then
@@ -105,7 +104,7 @@ gather-all-spec =
     enum-known-next
     with-requires
     enum-known-why
-    cast-t16
+    cast-t15
     returns
     add-k
     loop-less

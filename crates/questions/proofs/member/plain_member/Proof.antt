@@ -18,11 +18,11 @@ enum-told c = search needs
 
 returns : tie.Need-returns
 unfolding andThen
-returns c = simp (← c .before .before .before .before .before .plain-info .ensures .0, c .before .before .before .info .given .1, c .in-memory .ensures)
+returns c = simp (← c .before .before .before .before .before .plain-info .ensures, c .before .before .before .info .given .1, c .in-memory .ensures)
 
 returns-2 : tie.Need-returns-2
 unfolding andThen
-returns-2 c = simp (← c .before .before .plain-info .ensures .0, c .enum-told .given .1)
+returns-2 c = simp (← c .before .before .plain-info .ensures, c .enum-told .given .1)
 
 pub plain-member-spec : {M : Type 1} → statement M
 plain-member-spec =

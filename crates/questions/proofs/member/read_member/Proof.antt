@@ -27,11 +27,11 @@ enum-known-why c = search needs
 
 returns-2 : tie.Need-returns-2
 unfolding andThen
-returns-2 c = rw (← c .before .before .before .before .row-named .ensures .0, c .before .before .index .given .1, c .row-layout .ensures)
+returns-2 c = rw (← c .before .before .before .before .row-named .ensures, c .before .before .index .given .1, c .row-layout .ensures)
 
 returns-3 : tie.Need-returns-3
 unfolding andThen
-returns-3 c = rw (← c .before .before .before .row-named .ensures .0, c .before .why .given .1)
+returns-3 c = rw (← c .before .before .before .row-named .ensures, c .before .why .given .1)
 
 pub read-member-spec : {M : Type 1} → statement M
 read-member-spec =

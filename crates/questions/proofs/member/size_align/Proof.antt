@@ -46,11 +46,11 @@ enum-known-why-2 c = search needs
 
 returns-4 : tie.Need-returns-4
 unfolding unless atPosition andThen
-returns-4 c = simp (size-align-is, ← c .before .before .before .before .before .before .before .no-table .ensures, c .before .before .before .before .before .before .if1 .left, ← c .before .before .before .before .row-named .ensures .0, c .before .before .index .given .1, c .row-layout .ensures)
+returns-4 c = simp (size-align-is, ← c .before .before .before .before .before .before .before .no-table .ensures, c .before .before .before .before .before .before .if1 .left, ← c .before .before .before .before .row-named .ensures, c .before .before .index .given .1, c .row-layout .ensures)
 
 returns-5 : tie.Need-returns-5
 unfolding unless atPosition andThen
-returns-5 c = simp (size-align-is, ← c .before .before .before .before .before .before .no-table .ensures, c .before .before .before .before .before .if1 .left, ← c .before .before .before .row-named .ensures .0, c .before .why2 .given .1)
+returns-5 c = simp (size-align-is, ← c .before .before .before .before .before .before .no-table .ensures, c .before .before .before .before .before .if1 .left, ← c .before .before .before .row-named .ensures, c .before .why2 .given .1)
 
 pub size-align-spec : {M : Type 1} → statement M
 size-align-spec =

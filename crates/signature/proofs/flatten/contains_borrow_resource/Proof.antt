@@ -1,8 +1,6 @@
--- What all reach together (`borrow-gathered`).
-use mathlib.Core.Bool.{Bool}
-use mathlib.Core.Path.{ap, _∙_}
+-- The borrow of all together (`borrow-gathered`).
 use denote.Ref.{now}
-use Rattle.canon.specs.Answer.{ok, then}
+use Rattle.canon.specs.Answer.{then}
 use Rattle.canon.specs.Layout.{mem32}
 use Rattle.signature.proofs.Asking.{borrow-gathered}
 use borrow.Author.Needs.{needs}
@@ -15,18 +13,14 @@ gather-requires c κs = search needs
 enum-known-all : tie.Need-enum-known-all
 enum-known-all c = search needs
 
-is-borrow-requires : tie.Need-is-borrow-requires
-is-borrow-requires c κs = search needs
-
 enum-known-why : tie.Need-enum-known-why
 enum-known-why c = search needs
 
 returns : tie.Need-returns
 unfolding then
 returns c =
-    let a = c .before .before .before .before .before .before .before .before .args in
-    ap (λ (x : Bool). ok x) (c .is-borrow .ensures)
-    ∙ rw (borrow-gathered mem32 (now (a .table)) (a .n) (now (a .references)), ← c .before .before .before .before .before .gather .ensures, c .before .before .before .all .given .1)
+    let a = c .before .before .before .before .before .before .args in
+    rw (borrow-gathered mem32 (now (a .table)) (a .n) (now (a .references)), ← c .before .before .before .gather .ensures, c .before .all .given .1)
 
 returns-2 : tie.Need-returns-2
 unfolding then
@@ -37,4 +31,4 @@ returns-2 c =
 pub contains-borrow-resource-spec : {M : Type 1} → statement M
 contains-borrow-resource-spec =
     tie.close
-    (tie.spec gather-requires enum-known-all is-borrow-requires enum-known-why returns returns-2)
+    (tie.spec gather-requires enum-known-all enum-known-why returns returns-2)

@@ -1,11 +1,8 @@
 -- The reference's layouts, flat words and reach make its info (`plain-is`); past the last there is none.
-use mathlib.Core.Path.{refl}
 use native.Mathlib.Omega.{arith}
-use lib.Dec.{eqb}
 use Rattle.canon.specs.Types.{plain}
 use Rattle.canon.specs.Question.{plainInfo}
 use Rattle.flat_types.proofs.References.{past}
-use Rattle.canon.proofs.Reaches.{good-word}
 use Rattle.table.proofs.References.{plain-is}
 use borrow.Author.Needs.{needs}
 use Rattle.table.proofs.plain.plain_info.Statement.{statement}
@@ -13,7 +10,7 @@ use Rattle.table.proofs.plain.plain_info.Tie as tie
 
 returns : tie.Need-returns
 unfolding plainInfo
-returns c = (rw (past plain (c .before .args .reference) (omega arith)), refl)
+returns c = rw (past plain (c .before .args .reference) (omega arith))
 
 abi-requires : tie.Need-abi-requires
 abi-requires c κs = search needs
@@ -28,11 +25,10 @@ reach-requires : tie.Need-reach-requires
 reach-requires c κs = search needs
 
 returns-2 : tie.Need-returns-2
-returns-2 c = let k = c .before .before .before .before .before .args .reference in (
-  rw (c .before .before .layouts .ensures)
-      (plain-is _ k (omega arith) (c .before .before .before .abi .ensures .0) (c .before .plain .ensures) (c .reach .ensures)),
-  rw (c .reach .ensures) (good-word (record { borrow = eqb k 14 })),
-)
+returns-2 c =
+    let k = c .before .before .before .before .before .args .reference in
+    rw (c .before .before .layouts .ensures)
+    (plain-is _ k (omega arith) (c .before .before .before .abi .ensures .0) (c .before .plain .ensures) (c .reach .ensures))
 
 pub plain-info-spec : {M : Type 1} → statement M
 plain-info-spec =

@@ -1,6 +1,4 @@
 -- Part by part.
-use mathlib.Core.Path.{ap}
-use Rattle.table.specs.declared.reach.Reach.{Reach}
 use borrow.Author.Needs.{needs}
 use Rattle.table.proofs.read.row_info.Statement.{statement}
 use Rattle.table.proofs.read.row_info.Tie as tie
@@ -15,7 +13,7 @@ row-reach-requires : tie.Need-row-reach-requires
 row-reach-requires c κs = search needs
 
 returns : tie.Need-returns
-returns c = (simp (c .before .before .row-layouts .ensures, c .before .row-types .ensures .count, c .before .row-types .ensures .flats, c .row-reach .ensures), ap (λ (x : Reach). x .0) (c .row-reach .ensures))
+returns c = simp (c .before .before .row-layouts .ensures, c .before .row-types .ensures .count, c .before .row-types .ensures .flats, c .row-reach .ensures)
 
 pub row-info-spec : {M : Type 1} → statement M
 row-info-spec =

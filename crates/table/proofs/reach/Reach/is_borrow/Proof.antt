@@ -1,4 +1,4 @@
--- The word is tested.
+-- Whether the word is odd.
 use mathlib.Core.Path.{refl}
 use Rattle.canon.specs.Reach.{wordReach}
 use Rattle.table.proofs.reach.Reach.is_borrow.Statement.{statement}
