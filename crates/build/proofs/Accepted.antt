@@ -1,16 +1,15 @@
 -- What a build accepts: every type of it fits both memories, its row stands at its index, and a record's or tuple's layout is the tightest.
-use mathlib.Core.Path.{_≡_, refl, sym, _∙_}
+use mathlib.Core.Path.{_≡_, refl, sym, ap, _∙_}
 use mathlib.Core.Bool.{Bool, true, false, _||_}
-use mathlib.Core.List.{List, [], _∷_, map}
+use mathlib.Core.List.{List, [], _∷_}
 use mathlib.Core.Option.{Option, none, some}
 use Prim.Native.Nat.{ℕ, zero, suc, _<_}
 use native.Mathlib.Omega.{arith}
 use lib.Dec.{ltb}
-use lib.ListN.{length, getD, getElem?}
+use lib.ListN.{length, getElem?}
 use borrow.Author.Tests.{ltb-false}
 use Rattle.canon.specs.Types.{Ty, recordOf, tupleOf, Members, Kind}
 use Rattle.canon.specs.Layout.{Memory, mem32, mem64, within, largestNumber, starts, recordSize, recordLayout, layout, members}
-use Rattle.canon.specs.Placement.{Every}
 use Rattle.canon.specs.Row.{rowAbi, rowOf}
 use Rattle.canon.specs.Table.{rowAt}
 use Rattle.canon.specs.Description.{isTooLarge, answered, built, buildAnswer, tableAfter}
@@ -18,7 +17,7 @@ use Rattle.canon.proofs.Tests.{impossible}
 use Rattle.canon.proofs.Alignments.{members-aligned}
 use Rattle.canon.proofs.Tightest.{greatestAlign-least, ours, tightest}
 use Rattle.canon.proofs.Sizes.{tooLarge-size}
-use Rattle.canon.proofs.Built.{Accepted, built-sound, row-built}
+use Rattle.canon.proofs.Built.{built-sound, At, type-at, row-built}
 use Rattle.canon.proofs.Refusals.{Product, aRecord, aTuple, Tightest}
 use Rattle.build.specs.Means.{accepted}
 
@@ -34,30 +33,28 @@ accepted-types ws t = go (built ws t .stopped)
 
 -- Its row
 
--- the type at a place is accepted, and the row at that place is its
-record There (ts : List Ty) (i : ℕ) (t : Ty) : Type 0 where
-  inside : i < length ts
-  row : getD (map rowOf ts) i [] ≡ rowOf t
-  passed : Accepted t
-
-there : (ts : List Ty) (i : ℕ) (t : Ty) → Every Accepted ts → getElem? ts i ≡ some t → There ts i t
-there [] i t v e = impossible (cc)
-there (u ∷ ts) zero t v e = let p : u ≡ t = cc in rw (← p) (record { inside = omega arith; row = refl; passed = v .0 })
-there (u ∷ ts) (suc i) t v e =
-    let r = there ts i t (v .1) e in
-    record { inside = omega (arith, r .inside); row = r .row; passed = r .passed }
+found-inside : (ts : List Ty) (i : ℕ) (t : Ty) → getElem? ts i ≡ some t → i < length ts
+found-inside [] i t e = impossible (cc)
+found-inside (u ∷ ts) zero t e = omega arith
+found-inside (u ∷ ts) (suc i) t e = omega (arith, found-inside ts i t e)
 
 module _ (ws t : List ℕ) (i : ℕ) (u : Ty) (stands : getElem? (built ws t .types) i ≡ some u) where
-  found : There (built ws t .types) i u
-  found = there (built ws t .types) i u (built-sound ws t .passed) stands
+  inside : i < length (built ws t .types)
+  inside = found-inside (built ws t .types) i u stands
+
+  at : At (built ws t .types) i
+  at = type-at (built ws t .types) i (built-sound ws t .passed) inside
+
+  it : at .type ≡ u
+  it = let found = at .found in cc
 
   pub row-is : rowAt (tableAfter ws t) i ≡ rowOf u
-  row-is = row-built ws t i (found .inside) ∙ found .row
+  row-is = row-built ws t i inside ∙ at .row ∙ ap rowOf it
 
   pub fits-in : (m : Memory) → isTooLarge m u ≡ false
-  fits-in m = go m (isTooLarge mem32 u) (isTooLarge mem64 u) refl refl (found .passed .fits)
+  fits-in m = rw (← it) (go m (isTooLarge mem32 (at .type)) (isTooLarge mem64 (at .type)) refl refl (at .passed .small))
     where
-      go : (m : Memory) (b c : Bool) → isTooLarge mem32 u ≡ b → isTooLarge mem64 u ≡ c → b || c ≡ false → isTooLarge m u ≡ false
+      go : (m : Memory) (b c : Bool) → isTooLarge mem32 (at .type) ≡ b → isTooLarge mem64 (at .type) ≡ c → b || c ≡ false → isTooLarge m (at .type) ≡ false
       go m true c p q h = impossible (cc)
       go mem32 false c p q h = p
       go mem64 false c p q h = q ∙ h

@@ -27,7 +27,7 @@ use Rattle.canon.specs.Placement.{Every}
 pub record Accepted (t : Ty) : Type 0 where
   pub definition : Definition t
   pub shallow : depth t ≤ deepest
-  pub fits : isTooLarge mem32 t || isTooLarge mem64 t ≡ false
+  pub small : isTooLarge mem32 t || isTooLarge mem64 t ≡ false
 
 lifted : {A : Type 0} (f : A → Ty) (o : Option A) (t : Ty) → ((a : A) → Definition (f a)) → mapOption f o ≡ some t → Definition t
 lifted f none t d e = impossible (cc)
@@ -72,7 +72,7 @@ checked-accepted ts k b n none d e h = impossible (cc)
 checked-accepted ts k b n (some t) d e h =
     let c = checked-is n t d h in
     let r : t ≡ d .type = ap (λ (x : Defined). x .type) (c .2) in
-    rw (← r) (record { definition = typeOf-definition ts k b t e; shallow = ltb-false deepest (depth t) (c .0); fits = c .1 })
+    rw (← r) (record { definition = typeOf-definition ts k b t e; shallow = ltb-false deepest (depth t) (c .0); small = c .1 })
 
 define-accepted : (ts : List Ty) (o : Option Kind) (ws : List ℕ) (d : Defined) → bodied ts o ws ≡ is d → Accepted (d .type)
 unfolding bodied

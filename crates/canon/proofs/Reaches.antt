@@ -42,7 +42,7 @@ reach-back w = go (eqb (w % 2) 1) refl
   where
     go : (b : Bool) → eqb (w % 2) 1 ≡ b → cond b 1 0 + 2 * (w / 2) ≡ w
     go true e = omega (arith, eqb-true (w % 2) 1 e)
-    go false e = let odd = eqb-false (w % 2) 1 e in omega arith
+    go false e = let even = eqb-false (w % 2) 1 e in omega arith
 
 -- what two words tell together
 pub word-join : (v w : ℕ) → max (v % 2) (w % 2) + 2 * max (v / 2) (w / 2) ≡ reachWord (joinReach (wordReach v) (wordReach w))

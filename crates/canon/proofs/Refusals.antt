@@ -81,14 +81,14 @@ module _ (n : ℕ) (t : Ty) where
   -- the depth, whatever the size
   checked-nine : (checked n (some t) ≡ refuses tooDeep) ↔ (deepest < depth t)
   unfolding checked isTooDeep
-  checked-nine = (λ e. elim (decLe (depth t) deepest) [ yes h ↦ absurd (small h e) | no h ↦ omega arith ], λ h. rw (lt-ltb deepest (depth t) h))
+  checked-nine = (λ e. elim (decLe (depth t) deepest) [ yes h ↦ absurd (shallow h e) | no h ↦ omega arith ], λ h. rw (lt-ltb deepest (depth t) h))
     where
       neither : (b : Bool) → cond {A = Leaf Defined} b (refuses tooLarge) (is (record { type = t; length = n })) ≡ refuses tooDeep → ⊥
       neither true e = let p : tooLarge ≡ tooDeep = cc in omega arith
       neither false e = impossible (cc)
 
-      small : depth t ≤ deepest → checked n (some t) ≡ refuses tooDeep → ⊥
-      small h e = neither (isTooLarge mem32 t || isTooLarge mem64 t) (rw (le-ltb deepest (depth t) h) at e)
+      shallow : depth t ≤ deepest → checked n (some t) ≡ refuses tooDeep → ⊥
+      shallow h e = neither (isTooLarge mem32 t || isTooLarge mem64 t) (rw (le-ltb deepest (depth t) h) at e)
 
   -- the last test: the 64-bit memory decides it
   checked-six : depth t ≤ deepest → (checked n (some t) ≡ refuses tooLarge) ↔ (isTooLarge mem64 t ≡ true)
