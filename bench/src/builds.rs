@@ -157,7 +157,7 @@ pub fn check(words: &[u32], plain_table: &mut [u32], port_table: &mut [u32]) -> 
     let built = unsafe { plain::build(words, plain_table) };
     assert_eq!(built, n);
     let answer = port::words::build(words, port_table);
-    assert_eq!(answer, u64::from(n), "the port accepts the input");
+    assert_eq!(port::rows(answer), Some(n), "the port accepts the input");
     for index in 0..n as usize {
         let said = Some(original.row(index));
         assert_eq!(row(plain_table, index), said, "plain words' row {index}");

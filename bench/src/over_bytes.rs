@@ -1,6 +1,6 @@
 //! Calls over bytes beside the same calls over words, at the sizes of a small description.
 use crate::inputs::{SMALL, SMALL_REFERENCES};
-use crate::port::{bytes, bytes_of, words};
+use crate::port::{bytes, bytes_of, rows, words};
 use crate::report::{Aim, Group, Report, Timed};
 use crate::table::ROW;
 use crate::timing::Contender;
@@ -12,7 +12,8 @@ const REFERENCE: u32 = 65;
 
 pub fn run(report: &mut Report) {
     let mut table = [0; ROW * ROWS as usize];
-    assert_eq!(words::build(&SMALL, &mut table), u64::from(ROWS));
+    let accepted = rows(words::build(&SMALL, &mut table));
+    assert_eq!(accepted, Some(ROWS), "the port accepts the input");
     let table_bytes = bytes_of(&table);
     let references = SMALL_REFERENCES;
     let list = bytes_of(&references);

@@ -64,14 +64,22 @@ pub fn bytes_of(words: &[u32]) -> Vec<u8> {
     words.iter().flat_map(|word| word.to_le_bytes()).collect()
 }
 
-/// The answer of a placement: the size in bits 0 to 31, the alignment in bits 32 to 39.
-pub fn placed(size: u32, align: u32) -> u64 {
+/// The rows of an accepted build: bits 0 to 31 of its answer. Above them it reports the rows that it read back.
+pub fn rows(answer: u64) -> Option<u32> {
+    let is_accepted = answer >> 56 == 0;
+    is_accepted.then_some(answer as u32)
+}
+
+/// The answer of a size and alignment: the size in bits 0 to 31, the alignment in bits 32 to 39.
+pub fn layout((size, align): (u32, u32)) -> u64 {
     u64::from(size) | u64::from(align) << 32
 }
 
-/// The answer of a size and alignment: in the same bits.
-pub fn layout((size, align): (u32, u32)) -> u64 {
-    placed(size, align)
+/// The answer of a placement: the size in bits 0 to 31, the alignment in bits 32 to 35, and from bit 40 the rows
+/// that it read back.
+pub fn placed(size: u32, align: u32, references: &[u32]) -> u64 {
+    let definitions = references.iter().filter(|reference| **reference >= 64);
+    layout((size, align)) | (definitions.count() as u64) << 40
 }
 
 /// The answer of a flatten: the types in bits 0 to 33, their count in bits 40 to 47.

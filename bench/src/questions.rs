@@ -43,7 +43,8 @@ fn placement(report: &mut Report, many: usize, least: f64) {
     assert_eq!(tested_offsets, expected.offsets);
     let mut offsets = vec![0; many];
     let answer = port::words::placement(&table, ROWS, &references, &mut offsets);
-    assert_eq!(answer, port::placed(size, align), "the port's placement");
+    let said = port::placed(size, align, &references);
+    assert_eq!(answer, said, "the port's placement");
     assert_eq!(offsets, expected.offsets, "the port's offsets");
 
     let contenders = vec![

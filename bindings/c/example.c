@@ -28,10 +28,17 @@ static int is_refused(const char *call, uint64_t answer)
     return number != 0;
 }
 
-/* Prints what a placement answers: the size in bits 0 to 31, the alignment in bits 32 to 39. */
+/* Prints what a build answers: the count of rows in bits 0 to 31, the rows read back in bits 32 to 55. */
+static void print_built(uint64_t built)
+{
+    printf("build: %u definitions; rows read back: %u\n", (unsigned)built, (unsigned)(built >> 32));
+}
+
+/* Prints what a placement answers: the size in bits 0 to 31, the alignment in bits 32 to 35. It answers the
+ * rows read back as well, which are none for members that are no definitions. */
 static void print_placed(uint64_t placed)
 {
-    printf("size %u, alignment %u\n", (unsigned)placed, (unsigned)(placed >> 32) & 0xff);
+    printf("size %u, alignment %u\n", (unsigned)placed, (unsigned)(placed >> 32) & 0xf);
 }
 
 /* Prints a list of core types: two bits each, the first lowest, and how many in bits 40 to 47. */
@@ -108,8 +115,8 @@ int main(void)
     uint32_t table[TABLE];
     uint64_t built = lampughjata_build(description, 7, table, TABLE);
     if (is_refused("build", built)) return 1;
+    print_built(built);
     uint32_t rows = (uint32_t)built;
-    printf("build: %u definitions\n", (unsigned)rows);
     print_sizes(table, rows);
 
     return print_type(table, TABLE, rows) || print_placement(MEMORY32, table, TABLE, rows) ||

@@ -9,6 +9,7 @@
  *     uint32_t words[] = {1, 3, 2, 12, 2}, table[16], longer[40], members[] = {2, 12, 2}, offsets[3], record[] = {64};
  *     uint32_t infos[] = {1, 1, 1, 1, 1, 8, 4, 16, 8, 2}, cases[] = {0, 0, 0, 0, 0, 0, 1, 8, 4, 16, 8, 2};
  *     const uint64_t REFUSED = (uint64_t)1 << 56, ALIGN = (uint64_t)1 << 32, COUNT = (uint64_t)1 << 40, MEMORY = (uint64_t)1 << 55;
+ *     const uint64_t BUILD_READS = (uint64_t)1 << 32, PLACEMENT_READS = (uint64_t)1 << 40;
  */
 #ifndef LAMPUGHJATA_H
 #define LAMPUGHJATA_H
@@ -73,10 +74,11 @@ uint64_t lampughjata_record(const uint32_t *infos, size_t infos_len, uint32_t k)
  *     lampughjata_variant(cases, 12, 7) == 8 */
 uint64_t lampughjata_variant(const uint32_t *cases, size_t cases_len, uint32_t k);
 
-/* Writes a row of sixteen words for each definition, and answers how many. The table's capacity is table_len / 16, at most 1024.
- * The table is sixteen runs, one for each word of a row, and each as long as the capacity: table + w * capacity is the column of
- * word w, with an entry for each definition. HOST.md says what each word is. Lend the table to a question with the length that it
- * was built with: with another it may have another capacity, and so other columns.
+/* Writes a row of sixteen words for each definition. Answers how many in bits 0 to 31, and in bits 32 to 55 how many rows it read
+ * back. The table's capacity is table_len / 16, at most 1024. The table is sixteen runs, one for each word of a row, and each as
+ * long as the capacity: table + w * capacity is the column of word w, with an entry for each definition. HOST.md says what each
+ * word is. Lend the table to a question with the length that it was built with: with another it may have another capacity, and so
+ * other columns.
  *     lampughjata_build(words, 5, table, 16) == 1
  *     table[1] == 16
  *     lampughjata_build(words, 5, longer, 40) == 1
@@ -87,13 +89,23 @@ uint64_t lampughjata_variant(const uint32_t *cases, size_t cases_len, uint32_t k
  * else one more than that of the deepest. A depth above 100 is refused (9); below are 101 lists, the first of U8 and each other of
  * the one before.
  *     table[15] == 2
- *     lampughjata_build((uint32_t[]){3, 14, 8, 64}, 4, longer, 40) == 2
+ *     lampughjata_build((uint32_t[]){3, 14, 8, 64}, 4, longer, 40) == 2 + 1 * BUILD_READS
  *     longer[15 * 2] == 1 + 2 * 1
  *     longer[15 * 2 + 1] == 1 + 2 * 2
  *     uint32_t lists[202] = {3, 2}, deep[1616];
  *     for (uint32_t i = 1; i < 101; i++) lists[2 * i] = 3, lists[2 * i + 1] = 64 + (i - 1);
- *     lampughjata_build(lists, 200, deep, 1616) == 100
- *     lampughjata_build(lists, 202, deep, 1616) == 9 * REFUSED + 100 */
+ *     lampughjata_build(lists, 200, deep, 1616) == 100 + 99 * BUILD_READS
+ *     lampughjata_build(lists, 202, deep, 1616) == 9 * REFUSED + 100
+ *
+ * It reads a row back for each reference of 64 or more, so never more rows than there are words. First a list, and a variant with
+ * that list in three of its four cases: 4294967295, no payload, is not read. Then flags, and a fixed list of 64 of them, whose
+ * second 64 is a count. Then no words. The last is refused at its third definition, and does not report what the second read.
+ *     uint64_t built = lampughjata_build((uint32_t[]){3, 2, 2, 4, 64, 4294967295, 64, 64}, 8, deep, 1616);
+ *     (uint32_t)built == 2
+ *     built >> 32 == 3
+ *     lampughjata_build((uint32_t[]){6, 1, 10, 64, 64}, 5, deep, 1616) == 2 + 1 * BUILD_READS
+ *     lampughjata_build(NULL, 0, NULL, 0) == 0
+ *     lampughjata_build((uint32_t[]){3, 2, 8, 64, 8, 66}, 6, deep, 1616) == 4 * REFUSED + 2 */
 uint64_t lampughjata_build(const uint32_t *words, size_t words_len, uint32_t *table, size_t table_len);
 
 /* One number of a type: k = 0 to 4 its info, 5 and 6 its core types, 7 whether it holds a Borrow, 8 its depth, which is 0 for what
@@ -113,10 +125,13 @@ uint64_t lampughjata_type(const uint32_t *table, size_t table_len, uint32_t rows
 uint64_t lampughjata_size_align(uint32_t memory, const uint32_t *table, size_t table_len, uint32_t rows,
     uint32_t reference);
 
-/* Places members one after the other: writes their offsets, answers size and alignment.
+/* Places members one after the other: writes their offsets, answers the size in bits 0 to 31 and the alignment in bits 32 to 35;
+ * and in bits 40 to 55 the rows that it read back, one for each reference of 64 or more.
  *     lampughjata_placement(1, table, 16, 1, members, 3, offsets, 3) == 32 + 8 * ALIGN
  *     offsets[1] == 8
- *     offsets[2] == 24 */
+ *     offsets[2] == 24
+ *     lampughjata_placement(1, table, 16, 1, (uint32_t[]){64, 2, 64}, 3, offsets, 3) == 72 + 8 * ALIGN + 2 * PLACEMENT_READS
+ *     lampughjata_placement(1, table, 16, 1, (uint32_t[]){64, 2, 65}, 3, offsets, 3) == 4 * REFUSED + 2 */
 uint64_t lampughjata_placement(uint32_t memory, const uint32_t *table, size_t table_len, uint32_t rows,
     const uint32_t *references, size_t references_len, uint32_t *offsets, size_t offsets_len);
 
@@ -159,12 +174,16 @@ uint64_t lampughjata_contains_borrow(const uint32_t *table, size_t table_len, ui
  *     lampughjata_variant_bytes((uint8_t *)cases, 48, 7) == 8
  *     lampughjata_build_bytes((uint8_t *)words, 20, (uint8_t *)table, 64) == 1
  *     lampughjata_build_bytes((uint8_t *)words, 19, (uint8_t *)table, 64) == 2 * REFUSED
+ *     lampughjata_build_bytes((uint8_t *)lists, 256, (uint8_t *)deep, 6464) == 32 + 31 * BUILD_READS
+ *     lampughjata_build_bytes((uint8_t *)lists, 800, (uint8_t *)deep, 6464) == 100 + 99 * BUILD_READS
  *     lampughjata_build_bytes((uint8_t *)lists, 808, (uint8_t *)deep, 6464) == 9 * REFUSED + 100
  *     lampughjata_type_bytes((uint8_t *)table, 64, 1, 64, 0) == 16
  *     lampughjata_type_bytes((uint8_t *)longer, 160, 2, 65, 8) == 2
  *     lampughjata_size_align_bytes(1, (uint8_t *)table, 64, 1, 64) == 32 + 8 * ALIGN
  *     lampughjata_placement_bytes(0, (uint8_t *)table, 64, 1, (uint8_t *)members, 12, (uint8_t *)offsets, 12) == 16 + 4 * ALIGN
  *     offsets[2] == 12
+ *     uint64_t placed = lampughjata_placement_bytes(0, (uint8_t *)table, 64, 1, (uint8_t *)record, 4, (uint8_t *)offsets, 12);
+ *     placed == 16 + 4 * ALIGN + 1 * PLACEMENT_READS
  *     lampughjata_flatten_bytes(0, 16, (uint8_t *)table, 64, 1, (uint8_t *)record, 4) == 4 * COUNT
  *     lampughjata_lowering_bytes(0, 0, (uint8_t *)table, 64, 1, (uint8_t *)record, 4) == MEMORY
  *     lampughjata_lifting_bytes(0, 1, (uint8_t *)table, 64, 1, (uint8_t *)record, 4) == 4 * COUNT

@@ -24,6 +24,11 @@ fn main() -> Result<(), Refused> {
 
     let table = Table::build(description.words())?;
 
+    // A scheduler that reserves a slot for builds learns what this one took.
+    if let Some(reads) = table.reads() {
+        println!("the build read back {reads} rows");
+    }
+
     // The same record stands differently in the two memories: strings and lists hold pointers.
     for memory in [Memory::Memory32, Memory::Memory64] {
         let mut offsets = [0; 7];

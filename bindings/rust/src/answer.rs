@@ -27,10 +27,27 @@ pub fn layout(value: u64) -> Layout {
     }
 }
 
-/// A placement's bits are its own, though today they are those of a layout.
+/// What a build answers.
+pub struct Built {
+    pub rows: u32,
+    pub reads: u32,
+}
+
+/// The count of rows in bits 0 to 31, the rows read back in bits 32 to 55.
+pub fn built(value: u64) -> Built {
+    Built {
+        rows: value as u32,
+        reads: (value >> 32) as u32,
+    }
+}
+
+/// The size in bits 0 to 31, the alignment in bits 32 to 35, the rows read back in bits 40 to 55.
 pub fn placement(value: u64) -> Placement {
-    let Layout { size, align } = layout(value);
-    Placement { size, align }
+    Placement {
+        size: value as u32,
+        align: (value >> 32) as u32 & 0xf,
+        reads: (value >> 40) as u32,
+    }
 }
 
 /// A flat count: none is 255.

@@ -1,5 +1,5 @@
 //! The table of a description, and the questions put to it.
-use crate::answer;
+use crate::answer::{self, Built};
 use crate::calls::{self, RawSide, RawTable, Results};
 use crate::core_types::{CoreTypes, Flattened, Signature};
 use crate::{Place, Reference, Result};
@@ -63,13 +63,17 @@ pub struct Layout {
     pub align: u32,
 }
 
-/// What a placement answers beside its offsets: bytes and alignment of the record that the members make.
+/// What a placement answers beside its offsets: bytes and alignment of the record that the members make,
+/// and what it took to place them.
 #[derive(Clone, Copy, Debug, PartialEq, Eq, Hash)]
 pub struct Placement {
     pub size: u32,
     pub align: u32,
+    /// How many rows were read back: one for each member that is a definition, each time it is named.
+    pub reads: u32,
 }
 
+/// The layout alone.
 impl fmt::Display for Placement {
     fn fmt(&self, f: &mut fmt::Formatter) -> fmt::Result {
         write!(f, "{} bytes, aligned to {}", self.size, self.align)
@@ -154,10 +158,28 @@ impl Info {
 /// let table = Table::build(description.words())?;
 /// # Ok::<(), lampughjata::Refused>(())
 /// ```
-#[derive(Clone, Copy, Debug, PartialEq, Eq)]
+#[derive(Clone, Copy, Debug, Eq)]
 pub struct Table<W = Vec<u32>> {
     words: W,
     rows: u32,
+    /// Of the build, so none for a table that was not built here.
+    reads: Option<u32>,
+}
+
+/// Two tables are equal if their rows and words are: what a build took is no part of what it made.
+///
+/// ```
+/// # use lampughjata::Table;
+/// let built = Table::build(&[3, 2, 8, 64])?;
+/// let stored = Table::from_words(built.words().to_vec(), built.rows());
+/// assert_eq!((built.reads(), stored.reads()), (Some(1), None));
+/// assert_eq!(built, stored);
+/// # Ok::<(), lampughjata::Refused>(())
+/// ```
+impl<W: PartialEq> PartialEq for Table<W> {
+    fn eq(&self, other: &Table<W>) -> bool {
+        self.rows == other.rows && self.words == other.words
+    }
 }
 
 /// The words of a row.
@@ -192,8 +214,8 @@ impl Table {
         // for want of room, but at definition 1,024.
         let most = description.len().div_ceil(2).min(MOST_ROWS);
         let mut words = vec![0; most * ROW];
-        let rows = build_rows(description, &mut words)?;
-        Ok(Table { words, rows })
+        let built = build_rows(description, &mut words)?;
+        Ok(Table::from_built(words, built))
     }
 }
 
@@ -214,21 +236,26 @@ impl<'a> Table<&'a [u32]> {
     /// # Ok::<(), lampughjata::Refused>(())
     /// ```
     pub fn build_in(description: &[u32], buffer: &'a mut [u32]) -> Result<Table<&'a [u32]>> {
-        let rows = build_rows(description, buffer)?;
-        Ok(Table {
-            words: buffer,
-            rows,
-        })
+        let built = build_rows(description, buffer)?;
+        Ok(Table::from_built(buffer, built))
     }
 }
 
-/// Writes the rows and answers how many.
-fn build_rows(description: &[u32], table: &mut [u32]) -> Result<u32> {
+/// Writes the rows and answers how many, and how many it read back.
+fn build_rows(description: &[u32], table: &mut [u32]) -> Result<Built> {
     let answer = calls::build(description, table);
-    Ok(answer::value(answer, Place::Definition)? as u32)
+    answer::value(answer, Place::Definition).map(answer::built)
 }
 
 impl<W: AsRef<[u32]>> Table<W> {
+    fn from_built(words: W, Built { rows, reads }: Built) -> Table<W> {
+        Table {
+            words,
+            rows,
+            reads: Some(reads),
+        }
+    }
+
     /// The table of `rows` rows that stand in `words`, whoever wrote them. It takes the whole buffer that
     /// the table was built in: where a word stands depends on the length, so a part of a table is another
     /// table. Nothing is tested here: a question answers BadRow if the words do not suffice, or if a row
@@ -242,7 +269,11 @@ impl<W: AsRef<[u32]>> Table<W> {
     /// assert_eq!(refused.refusal, Refusal::BadRow);
     /// ```
     pub fn from_words(words: W, rows: u32) -> Table<W> {
-        Table { words, rows }
+        Table {
+            words,
+            rows,
+            reads: None,
+        }
     }
 
     /// The table's whole buffer: sixteen runs, one for each word of a row, each a sixteenth of the words
@@ -254,6 +285,24 @@ impl<W: AsRef<[u32]>> Table<W> {
     /// The number of rows, which is that of the definitions.
     pub fn rows(&self) -> u32 {
         self.rows
+    }
+
+    /// How many rows the build read back: one for each reference to a definition in the description, each
+    /// time it is named, and so never more than the description has words. None for a table that was not
+    /// built here ([`Table::from_words`]).
+    ///
+    /// ```
+    /// # use lampughjata::{Description, Reference, Table};
+    /// let mut description = Description::new();
+    /// let bytes = description.list(Reference::U8);
+    /// let packet = description.variant(&[Some(bytes), None, Some(bytes)]);
+    /// description.fixed_list(packet, 64);
+    /// let table = Table::build(description.words())?;
+    /// assert_eq!(table.reads(), Some(3), "twice the list, once the variant");
+    /// # Ok::<(), lampughjata::Refused>(())
+    /// ```
+    pub fn reads(&self) -> Option<u32> {
+        self.reads
     }
 
     /// The sixteen words of a definition's row as they stand, untested; none if there is no such row.
@@ -351,7 +400,8 @@ impl<W: AsRef<[u32]>> Table<W> {
     }
 
     /// Places the members of a record one after the other: one offset for each in `offsets`, whose later
-    /// words are kept. Answers the record's size and alignment. Nothing is written if it refuses.
+    /// words are kept. Answers the record's size and alignment, and how many rows it read back. Nothing is
+    /// written if it refuses.
     ///
     /// ```
     /// # use lampughjata::{Description, Memory, Placement, Reference, Table};
@@ -362,7 +412,10 @@ impl<W: AsRef<[u32]>> Table<W> {
     /// let mut offsets = [0; 3];
     /// let placed = table.placement(Memory::Memory32, &members, &mut offsets)?;
     /// assert_eq!(offsets, [0, 4, 12]);
-    /// assert_eq!(placed, Placement { size: 16, align: 4 });
+    /// assert_eq!(placed, Placement { size: 16, align: 4, reads: 0 });
+    ///
+    /// let placed = table.placement(Memory::Memory32, &[named, named], &mut offsets)?;
+    /// assert_eq!(placed, Placement { size: 32, align: 4, reads: 2 });
     /// # Ok::<(), lampughjata::Refused>(())
     /// ```
     pub fn placement(

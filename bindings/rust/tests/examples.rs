@@ -1,7 +1,7 @@
 //! The examples of the scope document and of order 4, and depths by order 5's rule, through the crate.
 use lampughjata::{
-    Calling, CoreType, Description, Info, Layout, Memory, Place, Placement, Reference, Refusal,
-    Refused, Side, Table,
+    Calling, CoreType, Description, Info, Layout, Memory, Place, Reference, Refusal, Refused, Side,
+    Table,
 };
 
 const MEMORIES: [Memory; 2] = [Memory::Memory32, Memory::Memory64];
@@ -40,8 +40,8 @@ fn payload_offsets(define: impl FnOnce(&mut Description) -> Reference) -> [u32; 
 fn placed<const N: usize>(memory: Memory, members: [Reference; N]) -> ([u32; N], u32, u32) {
     let table = Table::build(&[]).unwrap();
     let mut offsets = [0; N];
-    let Placement { size, align } = table.placement(memory, &members, &mut offsets).unwrap();
-    (offsets, size, align)
+    let placed = table.placement(memory, &members, &mut offsets).unwrap();
+    (offsets, placed.size, placed.align)
 }
 
 fn side(memory: Memory, calling: Calling, types: &[Reference]) -> Side<'_> {

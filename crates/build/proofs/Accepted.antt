@@ -1,9 +1,9 @@
 -- What a build accepts: every type of it fits both memories, its row stands at its index, and a record's or tuple's layout is the tightest.
 use mathlib.Core.Path.{_≡_, refl, sym, ap, _∙_}
 use mathlib.Core.Bool.{Bool, true, false, _||_}
-use mathlib.Core.List.{List, [], _∷_}
+use mathlib.Core.List.{List}
 use mathlib.Core.Option.{Option, none, some}
-use Prim.Native.Nat.{ℕ, zero, suc, _<_}
+use Prim.Native.Nat.{ℕ, _<_}
 use native.Mathlib.Omega.{arith}
 use lib.Dec.{ltb}
 use lib.ListN.{length, getElem?}
@@ -17,7 +17,7 @@ use Rattle.canon.proofs.Tests.{impossible}
 use Rattle.canon.proofs.Alignments.{members-aligned}
 use Rattle.canon.proofs.Tightest.{greatestAlign-least, ours, tightest}
 use Rattle.canon.proofs.Sizes.{tooLarge-size}
-use Rattle.canon.proofs.Built.{built-sound, At, type-at, row-built}
+use Rattle.canon.proofs.Built.{found-inside, built-sound, At, type-at, row-built}
 use Rattle.canon.proofs.Refusals.{Product, aRecord, aTuple, Tightest}
 use Rattle.build.specs.Means.{accepted}
 
@@ -32,11 +32,6 @@ accepted-types ws t = go (built ws t .stopped)
     go (some x) = refl
 
 -- Its row
-
-found-inside : (ts : List Ty) (i : ℕ) (t : Ty) → getElem? ts i ≡ some t → i < length ts
-found-inside [] i t e = impossible (cc)
-found-inside (u ∷ ts) zero t e = omega arith
-found-inside (u ∷ ts) (suc i) t e = omega (arith, found-inside ts i t e)
 
 module _ (ws t : List ℕ) (i : ℕ) (u : Ty) (stands : getElem? (built ws t .types) i ≡ some u) where
   inside : i < length (built ws t .types)

@@ -1,5 +1,6 @@
--- A definition at a place of the description is canon's `define` of the words there, and the next one stands after it, within the description.
-use mathlib.Core.Path.{_≡_, refl}
+-- A definition at a place of the description is canon's `define` of the words there, its references are those behind the kind word, and the next one
+-- stands after it, within the description.
+use mathlib.Core.Path.{_≡_, refl, ap, _∙_}
 use mathlib.Core.Bool.{Bool, true, false, cond}
 use mathlib.Core.List.{List}
 use mathlib.Core.Option.{Option, none, some}
@@ -17,8 +18,9 @@ use Rattle.canon.specs.Description.{kindOf, isBadCount, typeOf, Defined, checke
 use Rattle.canon.proofs.Tests.{impossible}
 use Rattle.canon.proofs.Built.{checked-length, typeInfo}
 use Rattle.canon.specs.Description.{shapeOf, bodyLength}
-use Rattle.head.specs.Heads.{Heading, heading, bodyAt, headKind, headAt}
-use Rattle.head.proofs.Laws.{head-spans}
+use Rattle.canon.specs.Cost.{referencesBehind}
+use Rattle.head.specs.Heads.{Heading, heading, bodyAt, headKind, headAt, between}
+use Rattle.head.proofs.Laws.{headed, head-spans, head-references}
 use Rattle.build.specs.Kinds.{kindRow, DefinedIs, definedAt}
 use Rattle.build.proofs.FitLaws.{rowLeaf}
 use Rattle.build.proofs.BodyLaws.{kind-row}
@@ -78,6 +80,15 @@ module _ (ts : List Ty) (ws : List ℕ) (at : ℕ) (there : at < length ws) wher
       go : (o : Option Kind) → fromHead (typeInfo ts) ws (headKind o ws (at + 1)) ≡ definedLeaf at (bodied ts o (drop (at + 1) ws))
       go none = refl
       go (some k) = body k
+
+-- The references of a heading are those that stand behind the kind word
+pub references-behind :
+    (ws : List ℕ) (at : ℕ) (h : Heading) → headAt ws at ≡ is h →
+    between ws (h .first) (h .end) ≡ referencesBehind (kindOf (getD ws at 0)) (drop (at + 1) ws)
+references-behind ws at h e =
+    let g = headed ws at h e in
+    head-references ws at h e
+    ∙ rw (g .known, getD-drop (at + 1) ws 0 0, add-zero (at + 1), ap (λ (x : Heading). x .count) (g .is-heading))
 
 -- A definition moves on
 

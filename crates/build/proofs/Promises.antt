@@ -1,29 +1,33 @@
 -- What the promise of `build` says of the standard: demand 3 for the records and tuples of a description, what questions read from the table,
--- that the wider memory is never the smaller, and how deep a type goes.
-use mathlib.Core.Path.{_≡_, refl}
+-- that the wider memory is never the smaller, how deep a type goes, and how many rows were read back.
+use mathlib.Core.Path.{_≡_, refl, sym, ap, _∙_}
 use mathlib.Core.Logic.{_⊎_, inr, _↔_}
 use mathlib.Core.Bool.{true}
 use mathlib.Core.List.{List, _∷_}
 use mathlib.Core.Option.{some}
 use Prim.Native.Nat.{ℕ, suc, _≤_, _<_}
+use native.Mathlib.Omega.{arith}
 use lib.ListN.{length, take, getElem?}
 use contract.Lifetimes.{Lfts}
 use denote.Ref.{RefT, now, at-last}
-use Rattle.canon.specs.Answer.{refused, tooLarge, tooDeep}
+use Rattle.canon.specs.Answer.{is, Answer, ok, refused, tooLarge, tooDeep}
+use Rattle.canon.specs.Cost.{isRow, referencesBehind, rowsRead, reported, buildReads}
 use Rattle.canon.specs.Types.{Ty, Members, Kind}
 use Rattle.canon.specs.Layout.{Memory, mem32, mem64, within, starts, members}
-use Rattle.canon.specs.Placement.{NoPlacement}
+use Rattle.canon.specs.Placement.{Every, NoPlacement}
 use Rattle.canon.specs.Row.{word, rowOf, rowAbi}
 use Rattle.canon.specs.Reach.{reachWord, reach, depth, deepest}
 use Rattle.canon.specs.Table.{capacity, rowAt}
-use Rattle.canon.specs.Description.{kindOf, isTooLarge, mostWords, built}
+use Rattle.canon.specs.Description.{kindOf, isTooLarge, Defined, define, mostWords, built}
 use Rattle.canon.specs.Question.{read}
 use Rattle.canon.proofs.Wider.{NeverSmaller, row-wider}
 use Rattle.canon.proofs.Rows.{definition-deep}
-use Rattle.canon.proofs.Refusals.{Product, Spells, Passes, Tightest, either-none}
-use Rattle.canon.proofs.Stopped.{Comes, ComesTo, stopped-nine, stopped-six, build-six}
+use Rattle.canon.proofs.Refusals.{Product, Spells, accepted-spells, Passes, Tightest, either-none}
+use Rattle.canon.proofs.Stopped.{Comes, comes-room, ComesTo, stopped-nine, stopped-six, build-six}
+use Rattle.canon.proofs.Cells.{room-fits}
+use Rattle.canon.proofs.Costs.{build-within, isEarlier, accepted-rows}
 use Rattle.canon.proofs.Built.{Accepted, built-sound, type-at, typeInfo, reads-built}
-use Rattle.build.specs.Means.{builtMeans, accepted}
+use Rattle.build.specs.Means.{builtMeans, builtReads, accepted}
 use Rattle.build.specs.declared.Built.{Built}
 use Rattle.build.proofs.Accepted.{accepted-types, row-is, row-layout, fits-in, product-tightest}
 use Rattle.build.proofs.build.Reads as build
@@ -54,6 +58,21 @@ module _ (κs : Lfts 2) (ws t : RefT (List ℕ)) (r : Built) (l : List ℕ) (pro
       ↔ ((length (now ws) ≤ mostWords) × (d : ComesTo (capacity (length (now t))) (now ws)) × (length (d .types) ≡ i)
       × (u : Ty) × Spells (d .types) (d .word) (d .rest) u × (deepest < depth u))
   deep-at i = rw (promise .0) (stopped-nine (now ws) (now t) i)
+
+  -- accepted, it reports exactly the references of the form 64+j in the words; and never more than the words
+  pub reads-are : (n : ℕ) → builtMeans r ≡ ok n → builtReads r ≡ rowsRead (now ws)
+  unfolding buildReads
+  reads-are n e = promise .2 ∙ ap (λ (a : Answer ℕ). reported a (rowsRead (now ws))) (sym (promise .0) ∙ e)
+
+  -- of each definition that the build accepts, these are the references to an earlier one
+  pub reads-earlier :
+      {left : ℕ} {ts : List Ty} {w : ℕ} {vs : List ℕ} {d : Defined} → Comes (capacity (length (now t))) (now ws) (suc left) ts (w ∷ vs) → define ts w vs ≡ is d →
+      Every (λ v. isRow v ≡ isEarlier (length ts) v) (referencesBehind (kindOf w) vs)
+  reads-earlier {ts = ts} {w} {vs} {d} comes e =
+      accepted-rows ts (omega (arith, comes-room comes, room-fits (length (now t)) .0)) w vs (d .type) (accepted-spells ts w vs d e .0)
+
+  pub reads-within : builtReads r ≤ length (now ws)
+  reads-within = rw (promise .2) (build-within (now ws) (now t))
 
   module _
       {left : ℕ} {ts : List Ty} {w : ℕ} {vs : List ℕ} {k : Kind} {type : Members → Ty}

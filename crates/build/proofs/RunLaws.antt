@@ -1,4 +1,5 @@
--- The loop of a build, in canon's own recursion: what holds of the rows written, the place and the table, and what each way out of the loop answers.
+-- The loop of a build, in canon's own recursion: what holds of the rows written and read back, the place and the
+-- table, and what each way out of the loop answers.
 use mathlib.Core.Path.{_≡_, refl, sym, ap, _∙_}
 use mathlib.Core.List.{List, [], _∷_, _++_, map}
 use mathlib.Core.Option.{Option, none, some}
@@ -6,18 +7,21 @@ use Prim.Native.Nat.{ℕ, zero, suc, _+_, _-_, _≤_, _<_}
 use native.Mathlib.Nat.{sub-zero}
 use native.Mathlib.Numerals.{add-one}
 use native.Mathlib.Omega.{arith}
-use lib.ListN.{length, getD, drop, drop-of-length-le, length-append, length-map}
-use lib.Seq.{drop-cons, drop-drop}
+use lib.ListN.{length, getD, take, drop, drop-of-length-le, length-append, length-map, length-take}
+use lib.Seq.{take-all, take-add, drop-cons, drop-drop}
 use borrow.Author.Tests.{lt-ltb, le-ltb}
 use Rattle.canon.specs.Answer.{Leaf, is, no as refuses, Answer, ok, refused, tooLong, noRoom}
 use Rattle.canon.specs.Types.{Ty}
 use Rattle.canon.specs.Row.{rowOf}
 use Rattle.canon.specs.Table.{capacity, putFrom, putRows}
-use Rattle.canon.specs.Description.{Defined, define, Built, follow, buildFrom, mostWords, build, answered, built, buildAnswer, tableAfter}
+use Rattle.canon.specs.Description.{kindOf, shapeOf, bodyLength, Defined, define, Built, follow, buildFrom, mostWords, build, answered, built, buildAnswer, tableAfter}
 use Rattle.canon.proofs.Tests.{impossible}
 use Rattle.canon.proofs.Cells.{length-putRows, putRows-snoc}
 use Rattle.canon.proofs.Built.{Sound}
 use Rattle.canon.proofs.Stopped.{sound-more}
+use Rattle.canon.specs.Cost.{rowsAmong, referencesBehind, referencesFrom, rowsRead, reported, buildReads}
+use Rattle.canon.proofs.Refusals.{Spells, accepted-spells}
+use Rattle.canon.proofs.Costs.{Complete, none-complete, one-more-complete, one-more-read, rowsRead-most}
 use Rattle.table.specs.Rows.{tableWith}
 use Rattle.table.proofs.Reading.{put-there}
 use Rattle.build.specs.Steps.{memberLook}
@@ -32,23 +36,27 @@ stop ts o = record { types = ts; stopped = o }
 abbrev rowsOf : List Ty → List ℕ → List ℕ
 rowsOf ts t = putRows (capacity (length t)) 0 (map rowOf ts) t
 
--- the types so far, i of them, have their rows in the table u, which was lent as t; from the place at on the rest of the words ws is still to be built
-pub record Running (ws t u : List ℕ) (i at : ℕ) : Type 0 where
+-- the types so far, i of them, have their rows in the table u, which was lent as t; from the place at on the rest of the words ws is still to be built.
+-- 02: "after each definition the running number is the one for the definitions so far", whose words stand before the place
+pub record Running (ws t u : List ℕ) (i at reads : ℕ) : Type 0 where
   pub types : List Ty
   pub counted : length types ≡ i
   pub sound : Sound (capacity (length t)) types
   pub held : u ≡ putRows (capacity (length t)) 0 (map rowOf types) t
   pub inside : at ≤ length ws
   pub rest : buildFrom (capacity (length t) - i) types (drop at ws) ≡ buildFrom (capacity (length t)) [] ws
+  pub complete : Complete (take at ws)
+  pub read : reads ≡ rowsRead (take at ws)
 
--- the answer a and the table u are canon's
+-- the answer a, the table u and what is reported with the answer are canon's
 pub record Answered (ws t u : List ℕ) (a : Answer ℕ) : Type 0 where
   pub answer : a ≡ buildAnswer ws t
   pub table : u ≡ tableAfter ws t
+  pub reads : reported a (rowsRead ws) ≡ buildReads ws t
 
 answers : (ws t : List ℕ) (ts : List Ty) (o : Option ℕ) → built ws t ≡ stop ts o → Answered ws t (rowsOf ts t) (answered (length ts) o)
-unfolding buildAnswer tableAfter
-answers ws t ts o e = record { answer = rw e; table = rw e }
+unfolding buildAnswer tableAfter buildReads
+answers ws t ts o e = record { answer = rw e; table = rw e; reads = rw e }
 
 -- Before the loop
 
@@ -56,8 +64,8 @@ pub too-long : (ws t : List ℕ) → mostWords < length ws → Answered ws t t (
 unfolding build putRows
 too-long ws t h = answers ws t [] (some tooLong) (rw (lt-ltb mostWords (length ws) h))
 
-pub begins : (ws t : List ℕ) → Running ws t t 0 0
-unfolding putRows
+pub begins : (ws t : List ℕ) → Running ws t t 0 0 0
+unfolding putRows referencesFrom rowsAmong
 begins ws t =
     record {
       types = [];
@@ -66,19 +74,34 @@ begins ws t =
       held = refl;
       inside = omega arith;
       rest = ap (λ (r : ℕ). buildFrom r [] ws) (sub-zero (capacity (length t)));
+      complete = none-complete;
+      read = refl;
     }
 
 map-snoc : (ts : List Ty) (t : Ty) → map rowOf (ts ++ t ∷ []) ≡ map rowOf ts ++ rowOf t ∷ []
 map-snoc [] t = refl
 map-snoc (u ∷ ts) t = ap (λ (rs : List (List ℕ)). rowOf u ∷ rs) (map-snoc ts t)
 
-module _ {ws t u : List ℕ} {i at : ℕ} (r : Running ws t u i at) where
+-- the words before the next definition
+next-words : (ws : List ℕ) (at n : ℕ) → at < length ws → take (at + 1 + n) ws ≡ take at ws ++ getD ws at 0 ∷ take n (drop (at + 1) ws)
+next-words ws at n h =
+    let e : at + 1 + n ≡ at + suc n = omega arith in
+    rw (e, take-add at (suc n) ws, drop-cons ws at 0 h, add-one at)
+
+module _ {ws t u : List ℕ} {i at reads : ℕ} (r : Running ws t u i at reads) where
   abbrev room : ℕ
   room = capacity (length t)
 
   -- the table keeps its length
   pub same-length : length u ≡ length t
   same-length = ap length (r .held) ∙ length-putRows room 0 (map rowOf (r .types)) t
+
+  -- no more rows were read back than there are words
+  pub running-most : reads ≤ length ws
+  running-most = omega (arith, r .read, rowsRead-most (take at ws), length-take at ws)
+
+  pub all-read : length ws ≤ at → reads ≡ rowsRead ws
+  all-read h = r .read ∙ ap rowsRead (take-all at ws h)
 
   -- Ways out: where canon's build stops after the types so far
 
@@ -135,10 +158,35 @@ module _ {ws t u : List ℕ} {i at : ℕ} (r : Running ws t u i at) where
       ∙ sym (putRows-snoc room 0 (map rowOf (r .types)) (rowOf x) t)
       ∙ ap (λ (rs : List (List ℕ)). putRows room 0 rs t) (sym (map-snoc (r .types) x))
 
-  pub goes-on : (d : DefinedIs) → definedAt (memberLook u i) ws at ≡ is d → at < length ws → i < room → Running ws t (tableWith u i (d .row)) (i + 1) (d .next)
-  goes-on d e h l = go verdict refl (sym (judged h) ∙ e)
+  module _ (x : Defined) (p : verdict ≡ is x) (h : at < length ws) where
+    abbrev after : ℕ
+    after = at + 1 + x .length
+
+    spelled : (s : Spells (r .types) (getD ws at 0) (drop (at + 1) ws) (x .type))
+        × (bodyLength (shapeOf (s .kind)) (getD (drop (at + 1) ws) 0 0) ≡ x .length)
+    spelled = accepted-spells (r .types) (getD ws at 0) (drop (at + 1) ws) x p
+
+    before : take after ws ≡ take at ws ++ getD ws at 0 ∷ take (bodyLength (shapeOf (spelled .0 .kind)) (getD (drop (at + 1) ws) 0 0)) (drop (at + 1) ws)
+    before = next-words ws at (x .length) h ∙ ap (λ (n : ℕ). take at ws ++ getD ws at 0 ∷ take n (drop (at + 1) ws)) (sym (spelled .1))
+
+    complete-after : Complete (take after ws)
+    complete-after =
+        let s = spelled .0 in
+        rw before (one-more-complete (getD ws at 0) (drop (at + 1) ws) (s .kind) (s .known) (s .whole) (take at ws) (r .complete))
+
+    read-after : reads + rowsAmong (referencesBehind (kindOf (getD ws at 0)) (drop (at + 1) ws)) ≡ rowsRead (take after ws)
+    read-after =
+        let s = spelled .0 in
+        rw before
+        (sym (one-more-read (getD ws at 0) (drop (at + 1) ws) (s .kind) (s .known) (s .whole) (take at ws) (r .complete)
+        ∙ ap (λ (n : ℕ). n + rowsAmong (referencesBehind (kindOf (getD ws at 0)) (drop (at + 1) ws))) (sym (r .read))))
+
+  pub goes-on :
+      (d : DefinedIs) (read : ℕ) → definedAt (memberLook u i) ws at ≡ is d → read ≡ rowsAmong (referencesBehind (kindOf (getD ws at 0)) (drop (at + 1) ws)) →
+      at < length ws → i < room → Running ws t (tableWith u i (d .row)) (i + 1) (d .next) (reads + read)
+  goes-on d read e f h l = go verdict refl (sym (judged h) ∙ e)
     where
-      go : (v : Leaf Defined) → verdict ≡ v → definedLeaf at v ≡ is d → Running ws t (tableWith u i (d .row)) (i + 1) (d .next)
+      go : (v : Leaf Defined) → verdict ≡ v → definedLeaf at v ≡ is d → Running ws t (tableWith u i (d .row)) (i + 1) (d .next) (reads + read)
       go (refuses x) p q = impossible (cc)
       go (is x) p q =
           let same : record { row = rowOf (x .type); next = at + 1 + x .length } ≡ d = cc in
@@ -153,4 +201,6 @@ module _ {ws t u : List ℕ} {i at : ℕ} (r : Running ws t u i at) where
                 (ap (buildFrom (room - (i + 1)) (r .types ++ x .type ∷ [])) (sym (drop-drop (x .length) (at + 1) ws))
                 ∙ sym (opened h l ∙ ap followed p)
                 ∙ r .rest);
+            complete = rw (← same) (complete-after x p h);
+            read = rw (← same, f) (read-after x p h);
           }

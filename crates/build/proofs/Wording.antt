@@ -1,4 +1,4 @@
--- Equal parts make equal rows.
+-- Equal parts make equal rows; what one lookup and one step do to a state.
 use mathlib.Core.Path.{_≡_, refl}
 use Prim.Native.Nat.{ℕ}
 use Rattle.canon.specs.Answer.{Leaf, is, no, andThen}
@@ -11,10 +11,13 @@ use Rattle.canon.proofs.Rows.{countWord-countOf}
 use Rattle.types.specs.declared.extent.Extent.{Extent}
 use Rattle.flat_types.specs.Lists.{bothWords}
 use Rattle.flat_types.proofs.Halves.{whole-halves}
-use Rattle.table.specs.Means.{infoMeans, foundMeans}
-use Rattle.table.specs.declared.plain.Found.{Found}
-use Rattle.table.specs.declared.plain.Found.the-variants as found
+use Rattle.table.specs.Means.{infoMeans}
 use Rattle.table.specs.declared.info.Info.{Info}
+use Rattle.build.specs.Means.{lookedMeans, ifRow}
+use Rattle.build.specs.declared.reference.Looked.{Looked}
+use Rattle.build.specs.declared.reference.Looked.the-variants as looked
+use Rattle.build.specs.declared.row.Rowed.{Rowed}
+use Rattle.build.specs.declared.row.Rowed.the-variants as rowed
 use Rattle.build.specs.Steps.{fitRow, infoFlat, MembersIs, addMember}
 
 -- the flat words that an info's meaning keeps are the info's own
@@ -29,14 +32,19 @@ fit-same kind p q r s = λ i. fitRow (p i) (s i) (λ ls. rowWords kind ls (q i) 
 
 -- what a found reference does to the state, and what a bad one does
 pub one :
-    (f : Found) (i : Info) (l : Leaf canon.Info) (s s′ : MembersIs) →
-    foundMeans f ≡ l → f ≡ found.Info i → s′ ≡ addMember s (infoMeans i) → andThen l (λ a. is (addMember s a)) ≡ is s′
+    (f : Looked) (i : Info) (reads : ℕ) (l : Leaf canon.Info) (s s′ : MembersIs) →
+    lookedMeans f ≡ l → f ≡ looked.Info i reads → s′ ≡ addMember s (infoMeans i) → andThen l (λ a. is (addMember s a)) ≡ is s′
 unfolding andThen
-one f i l s s′ p q r = rw (← p, q, r)
+one f i reads l s s′ p q r = rw (← p, q, r)
 
-pub none-found : (f : Found) (l : Leaf canon.Info) (s : MembersIs) → foundMeans f ≡ l → f ≡ found.BadRef → andThen l (λ a. is (addMember s a)) ≡ no 4
+pub none-found : (f : Looked) (l : Leaf canon.Info) (s : MembersIs) → lookedMeans f ≡ l → f ≡ looked.BadRef → andThen l (λ a. is (addMember s a)) ≡ no 4
 unfolding andThen
 none-found f l s p q = rw (← p, q)
+
+-- what holds, holds where a row was made
+pub if-row-holds : (x : Rowed) {A : Type 0} → A → ifRow x A
+if-row-holds (rowed.Row r) a = a
+if-row-holds (rowed.Refused x) a = tt
 
 -- one after another, however they are grouped
 pub then-twice : {A B C : Type 0} (l : Leaf A) (f : A → Leaf B) (g : B → Leaf C) → andThen (andThen l f) g ≡ andThen l (λ a. andThen (f a) g)

@@ -1,4 +1,5 @@
 -- What this crate's values stand for.
+use mathlib.Core.Path.{_≡_}
 use mathlib.Core.List.{List}
 use mathlib.Core.Option.{Option, none, some}
 use Prim.Native.Nat.{ℕ}
@@ -15,10 +16,13 @@ use Rattle.build.specs.Steps.{pairOf, inEach, LimitedIs, MembersIs, Payl
 use Rattle.build.specs.Kinds.{DefinedIs}
 use Rattle.build.specs.declared.Built.{Built}
 use Rattle.build.specs.declared.Built.the-variants as built
+use Rattle.build.specs.declared.reference.Looked.{Looked}
+use Rattle.build.specs.declared.reference.Looked.the-variants as looked
 use Rattle.build.specs.declared.reference.Payload.{Payload}
 use Rattle.build.specs.declared.reference.Payload.the-variants as payload
 use Rattle.build.specs.declared.row.Rowed.{Rowed}
 use Rattle.build.specs.declared.row.Rowed.the-variants as rowed
+use Rattle.build.specs.declared.row.Counted.{Counted}
 use Rattle.build.specs.declared.row.Limited.{Limited}
 use Rattle.build.specs.declared.row.Limited.the-variants as limited
 use Rattle.build.specs.declared.members.Members.{Members}
@@ -30,17 +34,26 @@ use Rattle.build.specs.declared.define.DefinedRow.the-variants as define
 
 -- 01: "It answers the count, or the number with the definition's index"
 abbrev pub builtMeans : Built → Answer ℕ
-builtMeans (built.Rows n) = ok n
+builtMeans (built.Rows n reads) = ok n
 builtMeans (built.Refused x i) = refused (numberOf x) (i .0)
+
+-- 02, order 6: "how many rows it read back"; "A refused call reports 0"
+abbrev pub builtReads : Built → ℕ
+builtReads (built.Rows n reads) = reads
+builtReads (built.Refused x i) = 0
 
 -- how many definitions a build accepted: its count, or the index of its refusal
 abbrev pub accepted : Answer ℕ → ℕ
 accepted (ok n) = n
 accepted (refused x i) = i
 
+abbrev pub lookedMeans : Looked → Leaf row.Info
+lookedMeans (looked.Info i reads) = is (infoMeans i)
+lookedMeans looked.BadRef = no badRef
+
 abbrev pub payloadMeans : Payload → Leaf (Option row.Info)
 payloadMeans payload.Bare = is none
-payloadMeans (payload.Info i) = is (some (infoMeans i))
+payloadMeans (payload.Info i reads) = is (some (infoMeans i))
 payloadMeans payload.BadRef = no badRef
 
 abbrev pub rowedMeans : Rowed → Leaf (List ℕ)
@@ -67,9 +80,35 @@ payloadsMeans s =
     record { layouts = layoutsMeans (s .layouts); flat = bothWords (s .flat); reach = reachMeans (s .reach) }
 
 abbrev pub joinedMeans : Joined → Leaf PayloadsIs
-joinedMeans (joined.Payloads s) = is (payloadsMeans s)
+joinedMeans (joined.Payloads s reads) = is (payloadsMeans s)
 joinedMeans joined.BadRef = no badRef
 
 abbrev pub definedMeans : DefinedRow → Leaf DefinedIs
-definedMeans (defined.Row r next) = is (record { row = rowMeans r; next = next })
+definedMeans (defined.Row r next reads) = is (record { row = rowMeans r; next = next })
 definedMeans (defined.Refused x) = no (numberOf x)
+
+-- For what was not refused, so many rows were read back
+
+abbrev pub LookedReads : Looked → ℕ → Type 0
+LookedReads (looked.Info i reads) n = reads ≡ n
+LookedReads looked.BadRef n = Unit {0}
+
+abbrev pub PayloadReads : Payload → ℕ → Type 0
+PayloadReads payload.Bare n = 0 ≡ n
+PayloadReads (payload.Info i reads) n = reads ≡ n
+PayloadReads payload.BadRef n = Unit {0}
+
+abbrev pub JoinedReads : Joined → ℕ → Type 0
+JoinedReads (joined.Payloads s reads) n = reads ≡ n
+JoinedReads joined.BadRef n = Unit {0}
+
+abbrev pub ifRow : Rowed → Type 0 → Type 0
+ifRow (rowed.Row r) t = t
+ifRow (rowed.Refused x) t = Unit {0}
+
+abbrev pub CountedReads : Counted → ℕ → Type 0
+CountedReads c n = ifRow (c .rowed) (c .reads ≡ n)
+
+abbrev pub DefinedReads : DefinedRow → ℕ → Type 0
+DefinedReads (defined.Row r next reads) n = reads ≡ n
+DefinedReads (defined.Refused x) n = Unit {0}

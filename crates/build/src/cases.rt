@@ -1,24 +1,27 @@
 // Makes the rows of variants, enums, options and results from the payloads so far, in both memories at once.
 ghost use mathlib.Core.Path.{_≡_};
+ghost use mathlib.Core.List.{[], _∷_};
 ghost use Prim.Native.Nat.{_≤_, _<_};
 ghost use lib.ListN.{length, getD};
 ghost use Rattle.canon.specs.Answer.{is, andThen};
+ghost use Rattle.canon.specs.Cost.{rowsAmong};
 ghost use Rattle.types.specs.Means.{bytesOf};
 ghost use Rattle.table.specs.Means.{infoMeans};
 ghost use Rattle.head.specs.Heads.{between};
-ghost use Rattle.build.specs.Means.{payloadsMeans, joinedMeans, rowedMeans};
+ghost use Rattle.build.specs.Means.{payloadsMeans, joinedMeans, rowedMeans, JoinedReads, CountedReads};
 ghost use Rattle.build.specs.Kinds.{variantRow, enumRow, optionRow};
 ghost use Rattle.build.specs.Steps.{noPayloads, addPayload, addIfPayload, payloadsRow, memberLook, caseLook, foldRefs};
+use crate::reference::Looked;
 use crate::reference::Payload;
 use crate::reference::case_at;
 use crate::reference::member_at;
+use crate::row::Counted;
 use crate::row::Rowed;
 use crate::row::fit_row;
 use flat_types::FlatTypes;
 use head::ENUM;
 use head::OPTION;
 use table::DefinitionIndex;
-use table::Found;
 use table::Info;
 use table::Inner;
 use table::NO_LAYOUTS;
@@ -27,7 +30,6 @@ use types::DiscriminantAnswer;
 use types::DiscriminantSize;
 use types::Extents;
 use types::Layouts;
-use types::Refusal;
 
 struct Payloads {
     layouts: Layouts,
@@ -35,8 +37,9 @@ struct Payloads {
     reach: Reach,
 }
 
+// Holds the payloads, and how many rows were read back for the last.
 enum Joined {
-    Payloads(Payloads),
+    Payloads(Payloads, u32),
     BadRef,
 }
 
@@ -69,12 +72,14 @@ impl Payloads {
 
     // Adds the payload of a case, if it has one.
     fn add_case(self, table: &[u32], index: DefinitionIndex, reference: u32) -> Joined
+        requires { ⌜ index .0 ≤ 1024 ⌝ }
         ensures { λ r. ⌜ joinedMeans r ≡ andThen (caseLook (memberLook (now (table .entry)) (index .0)) reference) (λ c. is (addIfPayload (payloadsMeans self) c)) ⌝ }
+        ensures { λ r. ⌜ JoinedReads r (rowsAmong (reference ∷ [])) ⌝ }
     {
         match case_at(table, index, reference) {
             Payload::BadRef => Joined::BadRef,
-            Payload::Bare => Joined::Payloads(self),
-            Payload::Info(payload) => Joined::Payloads(self.add(payload)),
+            Payload::Bare => Joined::Payloads(self, 0),
+            Payload::Info(payload, reads) => Joined::Payloads(self.add(payload), reads),
         }
     }
 
@@ -105,20 +110,28 @@ fn cases_row(
     index: DefinitionIndex,
     kind: u32,
     size: DiscriminantSize,
-) -> Rowed
-    requires { ⌜ (first ≤ end) × (end ≤ length (now words)) ⌝ }
-    ensures { λ r. ⌜ rowedMeans r ≡ foldRefs (caseLook (memberLook (now (table .entry)) (index .0))) addIfPayload (between (now (words .entry)) first end) noPayloads (payloadsRow kind (bytesOf size)) ⌝ }
+) -> Counted
+    requires { ⌜ (first ≤ end) × (end ≤ length (now words)) × (length (now words) ≤ 16384) × (index .0 ≤ 1024) ⌝ }
+    ensures { λ r. ⌜ rowedMeans (r .rowed) ≡ foldRefs (caseLook (memberLook (now (table .entry)) (index .0))) addIfPayload (between (now (words .entry)) first end) noPayloads (payloadsRow kind (bytesOf size)) ⌝ }
+    ensures { λ r. ⌜ CountedReads r (rowsAmong (between (now (words .entry)) first end)) ⌝ }
 {
     let mut payloads = Payloads::start();
+    let mut reads: u32 = 0;
     let mut at = first;
     while at < end {
         match payloads.add_case(table, index, words[at]) {
-            Joined::BadRef => return Rowed::Refused(Refusal::BadRef),
-            Joined::Payloads(more) => payloads = more,
+            Joined::BadRef => return Counted::BAD_REF,
+            Joined::Payloads(more, read) => {
+                payloads = more;
+                reads += read;
+            }
         }
         at += 1;
     }
-    payloads.row(kind, size)
+    Counted {
+        rowed: payloads.row(kind, size),
+        reads,
+    }
 }
 
 pub(crate) fn variant_row(
@@ -128,13 +141,17 @@ pub(crate) fn variant_row(
     table: &[u32],
     index: DefinitionIndex,
     kind: u32,
-) -> Rowed
-    requires { ⌜ (first ≤ end) × (end ≤ length (now words)) × (length (now words) ≤ 16384) ⌝ }
-    ensures { λ r. ⌜ rowedMeans r ≡ variantRow kind (memberLook (now (table .entry)) (index .0)) (between (now (words .entry)) first end) ⌝ }
+) -> Counted
+    requires { ⌜ (first ≤ end) × (end ≤ length (now words)) × (length (now words) ≤ 16384) × (index .0 ≤ 1024) ⌝ }
+    ensures { λ r. ⌜ rowedMeans (r .rowed) ≡ variantRow kind (memberLook (now (table .entry)) (index .0)) (between (now (words .entry)) first end) ⌝ }
+    ensures { λ r. ⌜ CountedReads r (rowsAmong (between (now (words .entry)) first end)) ⌝ }
 {
     let cases = (end - first) as u32;
     match DiscriminantSize::from_count(cases) {
-        DiscriminantAnswer::Refused(why) => Rowed::Refused(why),
+        DiscriminantAnswer::Refused(why) => Counted {
+            rowed: Rowed::Refused(why),
+            reads: 0,
+        },
         DiscriminantAnswer::Size(size) => cases_row(words, first, end, table, index, kind, size),
     }
 }
@@ -154,14 +171,18 @@ pub(crate) fn option_row(
     first: usize,
     table: &[u32],
     index: DefinitionIndex,
-) -> Rowed
-    requires { ⌜ first < length (now words) ⌝ }
-    ensures { λ r. ⌜ rowedMeans r ≡ andThen (memberLook (now (table .entry)) (index .0) (getD (now (words .entry)) first 0)) optionRow ⌝ }
+) -> Counted
+    requires { ⌜ (first < length (now words)) × (index .0 ≤ 1024) ⌝ }
+    ensures { λ r. ⌜ rowedMeans (r .rowed) ≡ andThen (memberLook (now (table .entry)) (index .0) (getD (now (words .entry)) first 0)) optionRow ⌝ }
+    ensures { λ r. ⌜ CountedReads r (rowsAmong (getD (now (words .entry)) first 0 ∷ [])) ⌝ }
 {
     match member_at(table, index, words[first]) {
-        Found::BadRef => Rowed::Refused(Refusal::BadRef),
-        Found::Info(payload) => Payloads::start()
-            .add(payload)
-            .row(OPTION, DiscriminantSize::Size1),
+        Looked::BadRef => Counted::BAD_REF,
+        Looked::Info(payload, reads) => Counted {
+            rowed: Payloads::start()
+                .add(payload)
+                .row(OPTION, DiscriminantSize::Size1),
+            reads,
+        },
     }
 }

@@ -1,13 +1,17 @@
 // Makes the rows of records, tuples and maps from the members so far, in both memories at once.
 ghost use mathlib.Core.Path.{_≡_};
+ghost use mathlib.Core.List.{[], _∷_};
 ghost use Prim.Native.Nat.{_+_, _≤_, _<_};
 ghost use lib.ListN.{length, getD};
+ghost use Rattle.canon.specs.Cost.{rowsAmong};
 ghost use Rattle.table.specs.Means.{infoMeans};
 ghost use Rattle.head.specs.Heads.{between};
-ghost use Rattle.build.specs.Means.{membersMeans, rowedMeans};
+ghost use Rattle.build.specs.Means.{membersMeans, rowedMeans, CountedReads};
 ghost use Rattle.build.specs.Steps.{noMembers, addMember, membersRow, memberLook, foldRefs};
 ghost use Rattle.build.specs.Kinds.{entryRow, mapRow};
+use crate::reference::Looked;
 use crate::reference::member_at;
+use crate::row::Counted;
 use crate::row::Limited;
 use crate::row::NO_INNER;
 use crate::row::Rowed;
@@ -17,12 +21,10 @@ use crate::row::within_limits;
 use flat_types::FlatTypes;
 use head::MAP;
 use table::DefinitionIndex;
-use table::Found;
 use table::Info;
 use table::Inner;
 use table::Reach;
 use types::Extents;
-use types::Refusal;
 
 struct Members {
     extents: Extents,
@@ -77,20 +79,28 @@ pub(crate) fn members_row(
     table: &[u32],
     index: DefinitionIndex,
     kind: u32,
-) -> Rowed
-    requires { ⌜ (first ≤ end) × (end ≤ length (now words)) ⌝ }
-    ensures { λ r. ⌜ rowedMeans r ≡ foldRefs (memberLook (now (table .entry)) (index .0)) addMember (between (now (words .entry)) first end) noMembers (membersRow kind) ⌝ }
+) -> Counted
+    requires { ⌜ (first ≤ end) × (end ≤ length (now words)) × (length (now words) ≤ 16384) × (index .0 ≤ 1024) ⌝ }
+    ensures { λ r. ⌜ rowedMeans (r .rowed) ≡ foldRefs (memberLook (now (table .entry)) (index .0)) addMember (between (now (words .entry)) first end) noMembers (membersRow kind) ⌝ }
+    ensures { λ r. ⌜ CountedReads r (rowsAmong (between (now (words .entry)) first end)) ⌝ }
 {
     let mut members = Members::start();
+    let mut reads: u32 = 0;
     let mut at = first;
     while at < end {
         match member_at(table, index, words[at]) {
-            Found::BadRef => return Rowed::Refused(Refusal::BadRef),
-            Found::Info(member) => members = members.add(member),
+            Looked::BadRef => return Counted::BAD_REF,
+            Looked::Info(member, read) => {
+                members = members.add(member);
+                reads += read;
+            }
         }
         at += 1;
     }
-    members.row(kind)
+    Counted {
+        rowed: members.row(kind),
+        reads,
+    }
 }
 
 // Makes the row of a map by the layout of its entries. A value starts where it stands in an entry.
@@ -119,15 +129,19 @@ fn entry_row(key: Info, value: Info) -> Rowed
     }
 }
 
-pub(crate) fn map_row(words: &[u32], first: usize, table: &[u32], index: DefinitionIndex) -> Rowed
-    requires { ⌜ first + 1 < length (now words) ⌝ }
-    ensures { λ r. ⌜ rowedMeans r ≡ mapRow (memberLook (now (table .entry)) (index .0)) (getD (now (words .entry)) first 0) (getD (now (words .entry)) (first + 1) 0) ⌝ }
+pub(crate) fn map_row(words: &[u32], first: usize, table: &[u32], index: DefinitionIndex) -> Counted
+    requires { ⌜ (first + 1 < length (now words)) × (index .0 ≤ 1024) ⌝ }
+    ensures { λ r. ⌜ rowedMeans (r .rowed) ≡ mapRow (memberLook (now (table .entry)) (index .0)) (getD (now (words .entry)) first 0) (getD (now (words .entry)) (first + 1) 0) ⌝ }
+    ensures { λ r. ⌜ CountedReads r (rowsAmong (getD (now (words .entry)) first 0 ∷ getD (now (words .entry)) (first + 1) 0 ∷ [])) ⌝ }
 {
     match member_at(table, index, words[first]) {
-        Found::BadRef => Rowed::Refused(Refusal::BadRef),
-        Found::Info(key) => match member_at(table, index, words[first + 1]) {
-            Found::BadRef => Rowed::Refused(Refusal::BadRef),
-            Found::Info(value) => entry_row(key, value),
+        Looked::BadRef => Counted::BAD_REF,
+        Looked::Info(key, reads) => match member_at(table, index, words[first + 1]) {
+            Looked::BadRef => Counted::BAD_REF,
+            Looked::Info(value, more) => Counted {
+                rowed: entry_row(key, value),
+                reads: reads + more,
+            },
         },
     }
 }

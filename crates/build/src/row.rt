@@ -24,6 +24,19 @@ pub(crate) enum Rowed {
     Refused(Refusal),
 }
 
+// Holds what a definition's body makes, and how many rows were read back for it: of a refusal the number tells nothing.
+pub(crate) struct Counted {
+    pub(crate) rowed: Rowed,
+    pub(crate) reads: u32,
+}
+
+impl Counted {
+    pub(crate) const BAD_REF: Counted = Counted {
+        rowed: Rowed::Refused(Refusal::BadRef),
+        reads: 0,
+    };
+}
+
 // What a definition is within the limits of depth and size: its layouts and what it reaches.
 pub(crate) enum Limited {
     Within(Layouts, Reach),

@@ -1,12 +1,17 @@
 // Makes the rows of lists, fixed lists and flags, which need no loop.
 ghost use mathlib.Core.Path.{_≡_};
-ghost use Prim.Native.Nat.{_+_, _<_};
+ghost use mathlib.Core.List.{[], _∷_};
+ghost use Prim.Native.Nat.{_+_, _≤_, _<_};
 ghost use lib.ListN.{length, getD};
 ghost use Rattle.canon.specs.Answer.{andThen};
-ghost use Rattle.build.specs.Means.{rowedMeans};
+ghost use Rattle.canon.specs.Cost.{rowsAmong};
+ghost use Rattle.table.specs.Means.{infoMeans};
+ghost use Rattle.build.specs.Means.{rowedMeans, CountedReads};
 ghost use Rattle.build.specs.Steps.{memberLook};
 ghost use Rattle.build.specs.Kinds.{listRow, fixedRow, flagsRow};
+use crate::reference::Looked;
 use crate::reference::member_at;
+use crate::row::Counted;
 use crate::row::NO_INNER;
 use crate::row::Rowed;
 use crate::row::fit_row;
@@ -18,46 +23,67 @@ use head::FLAGS;
 use head::LIST;
 use table::Deeper;
 use table::DefinitionIndex;
-use table::Found;
+use table::Info;
 use table::Reach;
 use types::CanonicalAbiInfo;
 use types::InfoAnswer;
 use types::Refusal;
 
-pub(crate) fn list_row(words: &[u32], first: usize, table: &[u32], index: DefinitionIndex) -> Rowed
-    requires { ⌜ first < length (now words) ⌝ }
-    ensures { λ r. ⌜ rowedMeans r ≡ andThen (memberLook (now (table .entry)) (index .0) (getD (now (words .entry)) first 0)) listRow ⌝ }
+// The row of a list knows nothing of its element but what that reaches.
+fn list_of(element: Info) -> Rowed
+    ensures { λ r. ⌜ rowedMeans r ≡ listRow (infoMeans element) ⌝ }
 {
-    match member_at(table, index, words[first]) {
-        Found::BadRef => Rowed::Refused(Refusal::BadRef),
-        Found::Info(element) => {
-            let parts = element.reach;
-            match parts.deeper() {
-                Deeper::TooDeep => Rowed::Refused(Refusal::TooDeep),
-                Deeper::Reach(reach) => pair_row(LIST, NO_INNER, reach),
-            }
-        }
+    let parts = element.reach;
+    match parts.deeper() {
+        Deeper::TooDeep => Rowed::Refused(Refusal::TooDeep),
+        Deeper::Reach(reach) => pair_row(LIST, NO_INNER, reach),
     }
 }
 
-pub(crate) fn fixed_row(words: &[u32], first: usize, table: &[u32], index: DefinitionIndex) -> Rowed
-    requires { ⌜ first + 1 < length (now words) ⌝ }
-    ensures { λ r. ⌜ rowedMeans r ≡ andThen (memberLook (now (table .entry)) (index .0) (getD (now (words .entry)) first 0)) (fixedRow (getD (now (words .entry)) (first + 1) 0)) ⌝ }
+pub(crate) fn list_row(
+    words: &[u32],
+    first: usize,
+    table: &[u32],
+    index: DefinitionIndex,
+) -> Counted
+    requires { ⌜ (first < length (now words)) × (index .0 ≤ 1024) ⌝ }
+    ensures { λ r. ⌜ rowedMeans (r .rowed) ≡ andThen (memberLook (now (table .entry)) (index .0) (getD (now (words .entry)) first 0)) listRow ⌝ }
+    ensures { λ r. ⌜ CountedReads r (rowsAmong (getD (now (words .entry)) first 0 ∷ [])) ⌝ }
+{
+    match member_at(table, index, words[first]) {
+        Looked::BadRef => Counted::BAD_REF,
+        Looked::Info(element, reads) => Counted {
+            rowed: list_of(element),
+            reads,
+        },
+    }
+}
+
+pub(crate) fn fixed_row(
+    words: &[u32],
+    first: usize,
+    table: &[u32],
+    index: DefinitionIndex,
+) -> Counted
+    requires { ⌜ (first + 1 < length (now words)) × (index .0 ≤ 1024) ⌝ }
+    ensures { λ r. ⌜ rowedMeans (r .rowed) ≡ andThen (memberLook (now (table .entry)) (index .0) (getD (now (words .entry)) first 0)) (fixedRow (getD (now (words .entry)) (first + 1) 0)) ⌝ }
+    ensures { λ r. ⌜ CountedReads r (rowsAmong (getD (now (words .entry)) first 0 ∷ [])) ⌝ }
 {
     let count = words[first + 1];
     match member_at(table, index, words[first]) {
-        Found::BadRef => Rowed::Refused(Refusal::BadRef),
-        Found::Info(element) => {
+        Looked::BadRef => Counted::BAD_REF,
+        Looked::Info(element, reads) => {
             let layouts = element.layouts;
             let flat = element.flat;
             let parts = element.reach;
-            fit_row(
+            let rowed = fit_row(
                 FIXED_LENGTH_LIST,
                 layouts.repeat(count),
                 flat.repeat(count),
                 NO_INNER,
                 parts,
-            )
+            );
+            Counted { rowed, reads }
         }
     }
 }

@@ -56,7 +56,7 @@ passed-test true x l d e = absurd (impossible (cc))
 passed-test false x l d e = (refl, e)
 
 -- what comes through the last tests is neither too deep nor too large, and is the type that was tested, of the body's length
-checked-is :
+pub checked-is :
     (n : ℕ) (t : Ty) (d : Defined) → checked n (some t) ≡ is d →
     (isTooDeep (reach t) ≡ false) × (isTooLarge mem32 t || isTooLarge mem64 t ≡ false) × (record { type = t; length = n } ≡ d)
 unfolding checked
@@ -164,6 +164,16 @@ type-at (t ∷ ts) zero w h = record { type = t; found = refl; row = refl; passe
 type-at (t ∷ ts) (suc j) w h =
     let r = type-at ts j (w .1) (omega arith) in
     record { type = r .type; found = r .found; row = r .row; passed = r .passed }
+
+pub found-inside : (ts : List Ty) (i : ℕ) (t : Ty) → getElem? ts i ≡ some t → i < length ts
+found-inside [] i t e = impossible (cc)
+found-inside (u ∷ ts) zero t e = omega arith
+found-inside (u ∷ ts) (suc i) t e = omega (arith, found-inside ts i t e)
+
+pub at-each : (P : Ty → Type 0) (ts : List Ty) → Every P ts → (k : ℕ) (t : Ty) → getElem? ts k ≡ some t → P t
+at-each P [] w k t e = impossible (cc)
+at-each P (u ∷ ts) w zero t e = let f : u ≡ t = cc in rw f at (w .0)
+at-each P (u ∷ ts) w (suc k) t e = at-each P ts (w .1) k t e
 
 found-take : (ts : List Ty) (n j : ℕ) → j < n → getElem? (take n ts) j ≡ getElem? ts j
 found-take [] zero j h = absurd (omega arith)

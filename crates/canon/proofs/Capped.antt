@@ -1,7 +1,7 @@
 -- A table, a buffer or a list that is longer than any call can use answers as its first words do: no cell and no offset stands beyond the word
 -- 16,384, and one reference more than 16,384 is too many already. Nor can a build use more rows than one for two words.
 use mathlib.Core.Path.{_≡_, refl, sym, ap, ap₂, _∙_, fun-ext}
-use mathlib.Core.Bool.{Bool, false, cond, _||_}
+use mathlib.Core.Bool.{Bool, true, false, cond, _||_}
 use mathlib.Core.List.{List, [], _∷_, _++_, map, append-assoc}
 use mathlib.Core.Option.{some}
 use Prim.Native.Nat.{ℕ, zero, suc, _+_, _*_, _≤_, _<_, min}
@@ -10,18 +10,20 @@ use native.Mathlib.Omega.{arith}
 use lib.Dec.{ltb}
 use lib.ListN.{length, take, drop, set, length-set, length-take, length-drop, length-map, take-append-drop}
 use lib.Seq.{take-all, getD-take, set-append-left}
-use borrow.Author.Tests.{ltb-false, lt-ltb, le-ltb}
+use borrow.Author.Tests.{ltb-true, ltb-false, lt-ltb, le-ltb}
 use Rattle.canon.specs.Answer.{Leaf, is, no as refuses, Answer, ok, refused, then, unless, tooLong, badCount, noRoom, badRow}
 use Rattle.canon.specs.Layout.{Memory}
 use Rattle.canon.specs.Row.{Info, rowOf}
 use Rattle.canon.specs.Table.{capacity, place, cell, cellsFrom, rowAt, putFrom, putRows}
 use Rattle.canon.specs.Description.{kindOf, Defined, define, follow, buildFrom, mostWords, build, built, buildAnswer, tableAfter}
 use Rattle.canon.specs.Question.{read, infos, tooMany, noTable, ask, askTwo, layoutsIn, Placing, placed, placing, placementAnswer, bufferAfter, offsetsAfter}
+use Rattle.canon.specs.Cost.{rowsAmong, reported, placementReads}
 use Rattle.canon.specs.Types.{Ty}
 use Rattle.canon.proofs.Tests.{neither}
 use Rattle.canon.proofs.Cells.{place-fits, room-fits, rows-there, length-putFrom}
 use Rattle.canon.proofs.Built.{define-some, every-sixteen, built-sound}
 use Rattle.canon.specs.Placement.{Every}
+use Rattle.canon.proofs.Costs.{long-placement}
 use Rattle.canon.proofs.Questions.{past-test, rows-alike, asked-alike, placing-starts, offsets-length}
 
 -- Tests
@@ -193,6 +195,16 @@ pub placement-first :
     placementAnswer m (take 16384 t) n (take 16385 ws) (min 16384 room) ≡ placementAnswer m t n ws room
 unfolding placementAnswer
 placement-first m t n ws room = rw (placing-first m t n ws room)
+
+pub reads-first :
+    (m : Memory) (t : List ℕ) (n : ℕ) (ws : List ℕ) (room : ℕ) →
+    placementReads m (take 16384 t) n (take 16385 ws) (min 16384 room) ≡ placementReads m t n ws room
+unfolding placementReads
+reads-first m t n ws room = rw (placement-first m t n ws room) (go (tooMany ws) refl)
+  where
+    go : (many : Bool) → tooMany ws ≡ many → reported (placementAnswer m t n ws room) (rowsAmong (take 16385 ws)) ≡ reported (placementAnswer m t n ws room) (rowsAmong ws)
+    go true e = rw (long-placement m t n ws room (ltb-true mostWords (length ws) e))
+    go false e = ap (λ (vs : List ℕ). reported (placementAnswer m t n ws room) (rowsAmong vs)) (list-first ws e)
 
 few-offsets : (m : Memory) (t : List ℕ) (n : ℕ) (ws : List ℕ) (room : ℕ) (p : Placing) → placing m t n ws room ≡ ok p → length (p .offsets) ≤ 16384
 few-offsets m t n ws room p e =

@@ -44,6 +44,10 @@ pub rows-there : (t : List ℕ) (n : ℕ) → noTable t n ≡ false → n ≤ ca
 unfolding noTable
 rows-there t n e = ltb-false (capacity (length t)) n e
 
+-- and they are 1,024 at most
+pub rows-most : (t : List ℕ) (n : ℕ) → noTable t n ≡ false → n ≤ 1024
+rows-most t n e = omega (arith, rows-there t n e, room-fits (length t) .0)
+
 -- stores keep the length
 
 pub length-putFrom : (room row k : ℕ) (ws t : List ℕ) → length (putFrom room row k ws t) ≡ length t

@@ -13,7 +13,8 @@ use Rattle.canon.specs.Pack.{code, pack, unpack}
 use Rattle.canon.specs.Row.{Info, countWord, word, rowOf, flatOf, isAlignment, goodLayout, goodCount, unusedZero, goodAbi, isDiscriminant, isGood}
 use Rattle.canon.specs.Table.{capacity, place, cell, cellsFrom, rowAt, putFrom, putRows}
 use Rattle.canon.specs.Description.{reference, mark, caseOf, membersOf, casesOf, kindOf, typeOf, isTooLarge, checked, bodied, buildFrom, build, buildAnswer, tableAfter}
-use Rattle.canon.specs.Question.{plainInfo, readRow, read, infos, noTable, ask, askTwo, typeAnswer, firstOver, orSize, refusedAt, judged, placed, placing}
+use Rattle.canon.specs.Question.{plainInfo, readRow, read, infos, noTable, ask, askTwo, typeAnswer, firstOver, orSize, refusedAt, judged, placed, placing, placementAnswer}
+use Rattle.canon.specs.Cost.{rowsAmong, referencesFrom, buildReads, placementReads}
 use Rattle.canon.specs.Signature.{Flattened, listed, inMemory, flatAll, atMost, flattenAnswer, Side, Signature, orPointer, startOf, asyncStartAnswer, behindPointer, returned, returnOf, asyncReturnAnswer}
 
 -- what is asked of a description's table, most often of its last definition
@@ -176,3 +177,33 @@ pub depth-holds :
 unfolding
     roundUp greatestAlign greatestSize payloadOffset variantSize layout numbers deeper reach capacity reference kindOf typeOf isTooLarge isTooDeep checked bodied buildFrom build buildAnswer
 depth-holds = refl
+
+-- Rows read back: the words of 01's program; none; a count of 64; a fixed list of 64 elements, each the first definition; marks beside it in a
+-- variant and in a result; a record that has it twice; and what is refused after a row was read
+pub reads-hold :
+    map (λ (ws : List ℕ). buildReads ws (replicate 64 0))
+    ((3 ∷ 2 ∷ 1 ∷ 4 ∷ 4 ∷ 4 ∷ 6 ∷ 64 ∷ 8 ∷ 65 ∷ [])
+    ∷ []
+    ∷ (6 ∷ 64 ∷ [])
+    ∷ (6 ∷ 9 ∷ 10 ∷ 64 ∷ 64 ∷ [])
+    ∷ (6 ∷ 9 ∷ 2 ∷ 3 ∷ mark ∷ 64 ∷ mark ∷ 9 ∷ mark ∷ 64 ∷ [])
+    ∷ (6 ∷ 9 ∷ 1 ∷ 2 ∷ 64 ∷ 64 ∷ [])
+    ∷ (6 ∷ 9 ∷ 8 ∷ 64 ∷ 3 ∷ 18 ∷ [])
+    ∷ [])
+    ≡ 2 ∷ 0 ∷ 0 ∷ 1 ∷ 2 ∷ 2 ∷ 0 ∷ []
+unfolding
+    roundUp starts ends lastEnd greatestAlign greatestSize payloadOffset variantSize recordSize layout numbers joinReach deeper reach capacity reference caseOf membersOf casesOf kindOf typeOf isTooLarge
+    isTooDeep checked bodied buildFrom build buildAnswer rowsAmong referencesFrom buildReads
+reads-hold = refl
+
+-- Placements over a table of one byte of flags and of a type of 4294967295 bytes: plain references, the first definition twice, both, one that names
+-- no row, and the second definition twice, which is too large
+pub placements-hold :
+    map (λ (ws : List ℕ). placementReads mem32 (tableAfter (6 ∷ 8 ∷ 10 ∷ 2 ∷ 4294967295 ∷ []) (replicate 32 0)) 2 ws 3)
+    ((2 ∷ 12 ∷ []) ∷ (64 ∷ 2 ∷ 64 ∷ []) ∷ (65 ∷ []) ∷ (64 ∷ 66 ∷ []) ∷ (65 ∷ 65 ∷ []) ∷ [])
+    ≡ 0 ∷ 2 ∷ 1 ∷ 0 ∷ 0 ∷ []
+unfolding
+    atPosition then unless roundUp greatestAlign starts ends lastEnd recordSize layout numbers copies flatten timesFlat flatCount deeper reachWord wordReach goodReach reach pack unpack rowOf flatOf isAlignment
+    goodLayout goodCount unusedZero goodAbi isDiscriminant isGood capacity place cell cellsFrom putFrom putRows reference kindOf typeOf isTooLarge isTooDeep checked bodied buildFrom build tableAfter
+    plainInfo readRow read infos noTable ask firstOver orSize refusedAt judged placed placing placementAnswer rowsAmong placementReads
+placements-hold = refl

@@ -18,5 +18,6 @@ pub mod Bodies
 pub mod Built
 pub mod Questions
 pub mod Stopped
+pub mod Costs
 pub mod Capped
 pub mod Columns

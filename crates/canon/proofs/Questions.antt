@@ -3,7 +3,7 @@
 -- and what a placement accepts for 64 it accepts for 32.
 use mathlib.Core.Path.{_≡_, refl, sym, ap, _∙_}
 use mathlib.Core.Logic.{_↔_}
-use mathlib.Core.Bool.{Bool, true, false, cond, _||_}
+use mathlib.Core.Bool.{Bool, true, false, cond, _||_, _&&_}
 use mathlib.Core.List.{List, [], _∷_, _++_, map, map-append, Forall₂, Forall₂·nil as empty, Forall₂·cons as pair}
 use mathlib.Core.Option.{Option, none, some}
 use Prim.Native.Nat.{ℕ, suc, _-_, _≤_, _<_}
@@ -17,8 +17,8 @@ use Rattle.canon.specs.Answer.{Leaf, is, no as refuses, Answer, ok, refu
 use Rattle.canon.specs.Types.{Ty, Core, plain}
 use Rattle.canon.specs.Layout.{Memory, mem32, mem64, Layout, within, starts, lastEnd, recordSize, layout, largestNumber}
 use Rattle.canon.specs.Flat.{flatten, flatCount}
-use Rattle.canon.specs.Reach.{reach}
-use Rattle.canon.specs.Row.{Info, infoLayout, infoOf, rowAbi, rowInfo, rowOf, word, goodAbi, isGood}
+use Rattle.canon.specs.Reach.{goodReach, reach}
+use Rattle.canon.specs.Row.{Info, infoLayout, infoOf, rowAbi, rowInfo, rowOf, word, unusedZero, goodAbi, isDiscriminant, isGood}
 use Rattle.canon.specs.Table.{capacity, rowAt}
 use Rattle.canon.specs.Description.{reference, built, tableAfter}
 use Rattle.canon.specs.Question.{plainInfo, readRow, reading, read, infos, tooMany, noTable, ask, askTwo, typeAnswer, layoutsIn, Placing, placed, placing, bufferAfter, offsetsAfter, anyBorrow}
@@ -78,19 +78,23 @@ info-aligned : (m : Memory) (u : Ty) → Alignment (within m (infoOf u .abi .lay
 info-aligned mem32 u = layout-aligned mem32 u
 info-aligned mem64 u = layout-aligned mem64 u
 
-pub row-tested : (r : List ℕ) → isGood r ≡ true → goodAbi (rowAbi r) ≡ true
-unfolding isGood
-row-tested r good =
-    let kind = both-true (leb 1 (word r 0)) _ good in
-    let rest = both-true (leb (word r 0) 10) _ (kind .1) in
-    both-true (goodAbi (rowAbi r)) _ (rest .1) .0
+module _ (r : List ℕ) (good : isGood r ≡ true) where
+  after-kind : goodAbi (rowAbi r) && (unusedZero (rowAbi r .flats) (word r 6) && (unusedZero (rowAbi r .flats) (word r 7) && (isDiscriminant (word r 8) && goodReach (word r 15)))) ≡ true
+  unfolding isGood
+  after-kind = both-true (leb (word r 0) 10) _ (both-true (leb 1 (word r 0)) _ good .1) .1
+
+  pub row-tested : goodAbi (rowAbi r) ≡ true
+  row-tested = both-true (goodAbi (rowAbi r)) _ after-kind .0
+
+  pub after-abi : unusedZero (rowAbi r .flats) (word r 6) && (unusedZero (rowAbi r .flats) (word r 7) && (isDiscriminant (word r 8) && goodReach (word r 15))) ≡ true
+  after-abi = both-true (goodAbi (rowAbi r)) _ after-kind .1
 
 pub read-aligned : (m : Memory) (t : List ℕ) (n w : ℕ) (i : Info) → read t n w ≡ is i → Alignment (within m (i .abi .layouts) .align)
 read-aligned m =
     read-has (λ i. Alignment (within m (i .abi .layouts) .align)) (info-aligned m) (λ r good. abi-tested (rowAbi r) (row-tested r good) m)
 
 -- the infos of a list, one after another
-first-ok :
+pub first-ok :
     (p : ℕ) (l : Leaf Info) (a : Answer (List Info)) (is′ : List Info) →
     then (atPosition p l) (λ i. then a (λ js. ok (i ∷ js))) ≡ ok is′ →
     (i : Info) × (js : List Info) × (l ≡ is i) × (a ≡ ok js) × (is′ ≡ i ∷ js)

@@ -1,5 +1,6 @@
 -- Demand 3: refused as too large exactly when no placement exists, for a record or tuple of a description and for a placement question. What a
--- description defines is refused so exactly when it is too large for the 64-bit memory, and as too deep exactly when its depth is above 100.
+-- description defines is refused so exactly when it is too large for the 64-bit memory, and as too deep exactly when its depth is above 100. What
+-- is accepted is spelled too, as long as its body.
 use mathlib.Core.Path.{_≡_, refl, sym, _∙_}
 use mathlib.Core.Logic.{_⊎_, inr, ⊎-elim, _↔_}
 use mathlib.Core.Bool.{Bool, true, false, cond, _||_}
@@ -21,6 +22,7 @@ use Rattle.canon.proofs.Tests.{impossible}
 use Rattle.canon.proofs.Tightest.{Aligned, le-lastEnd, le-recordSize, greatestAlign-least, ours, tightest}
 use Rattle.canon.proofs.Alignments.{members-aligned}
 use Rattle.canon.proofs.Sizes.{tooLarge-size}
+use Rattle.canon.proofs.Built.{checked-is}
 use Rattle.canon.specs.Placement.{LeastCommon, Placement, NoPlacement, NoneLater}
 use Rattle.canon.proofs.Wider.{_≼_, both-aligned, record-wider, members-wider, tooLarge-either}
 
@@ -52,30 +54,45 @@ unfolding bodied
 spells-checked {ws = ws} s = (bodyLength (shapeOf (s .kind)) (getD ws 0 0), simp (s .known, le-ltb _ _ (s .whole), s .counted, s .named))
 
 -- and only what is spelled: the numbers of the tests before are 5 at most
-pub checked-spells : (ts : List Ty) (w : ℕ) (ws : List ℕ) (x : ℕ) → badCount < x → define ts w ws ≡ refuses x → (t : Ty) × Spells ts w ws t
+
+abbrev SpelledTo : List Ty → ℕ → List ℕ → Leaf Defined → Type 0
+SpelledTo ts w ws l = (t : Ty) × (s : Spells ts w ws t) × (checked (bodyLength (shapeOf (s .kind)) (getD ws 0 0)) (some t) ≡ l)
+
+late-spells : (ts : List Ty) (w : ℕ) (ws : List ℕ) (l : Leaf Defined) → ((y : ℕ) → y ≤ badCount → refuses y ≡ l → ⊥) → define ts w ws ≡ l → SpelledTo ts w ws l
 unfolding bodied checked
-checked-spells ts w ws x late e = go (kindOf w) refl e
+late-spells ts w ws l late e = go (kindOf w) refl e
   where
     body : Kind → ℕ
     body k = bodyLength (shapeOf k) (getD ws 0 0)
 
-    early : (y : ℕ) → y ≤ badCount → _≡_ {A = Leaf Defined} (refuses y) (refuses x) → ⊥
-    early y l h = let p : y ≡ x = cc in omega arith
-
     last :
         (k : Kind) → kindOf w ≡ some k → (short bad : Bool) (o : Option Ty) →
         ltb (length ws) (body k) ≡ short → isBadCount k (getD ws 0 0) ≡ bad → typeOf ts k (take (body k) ws) ≡ o →
-        cond short (refuses truncated) (cond bad (refuses badCount) (checked (body k) o)) ≡ refuses x →
-        (t : Ty) × Spells ts w ws t
-    last k known true bad o l c n h = absurd (early truncated (omega arith) h)
-    last k known false true o l c n h = absurd (early badCount (omega arith) h)
-    last k known false false none l c n h = absurd (early badRef (omega arith) h)
-    last k known false false (some t) l c n h =
-        (t, record { kind = k; known = known; whole = ltb-false (length ws) (body k) l; counted = c; named = n })
+        cond short (refuses truncated) (cond bad (refuses badCount) (checked (body k) o)) ≡ l → SpelledTo ts w ws l
+    last k known true bad o s c n h = absurd (late truncated (omega arith) h)
+    last k known false true o s c n h = absurd (late badCount (omega arith) h)
+    last k known false false none s c n h = absurd (late badRef (omega arith) h)
+    last k known false false (some t) s c n h =
+        (t, record { kind = k; known = known; whole = ltb-false (length ws) (body k) s; counted = c; named = n }, h)
 
-    go : (o : Option Kind) → kindOf w ≡ o → bodied ts o ws ≡ refuses x → (t : Ty) × Spells ts w ws t
-    go none known h = absurd (early badKind (omega arith) h)
+    go : (o : Option Kind) → kindOf w ≡ o → bodied ts o ws ≡ l → SpelledTo ts w ws l
+    go none known h = absurd (late badKind (omega arith) h)
     go (some k) known h = last k known _ _ _ refl refl refl h
+
+-- what is refused with a later number
+pub checked-spells : (ts : List Ty) (w : ℕ) (ws : List ℕ) (x : ℕ) → badCount < x → define ts w ws ≡ refuses x → (t : Ty) × Spells ts w ws t
+checked-spells ts w ws x late e =
+    let r = late-spells ts w ws (refuses x) (λ y l h. let p : y ≡ x = cc in omega arith) e in
+    (r .0, r .1)
+
+-- and what is accepted, which is as long as its body
+pub accepted-spells :
+    (ts : List Ty) (w : ℕ) (ws : List ℕ) (d : Defined) → define ts w ws ≡ is d →
+    (s : Spells ts w ws (d .type)) × (bodyLength (shapeOf (s .kind)) (getD ws 0 0) ≡ d .length)
+accepted-spells ts w ws d e =
+    let r = late-spells ts w ws (is d) (λ y l h. impossible (cc)) e in
+    let same = checked-is _ (r .0) d (r .2) .2 in
+    rw (← same) (r .1, refl)
 
 module _ (n : ℕ) (t : Ty) where
   -- the depth, whatever the size

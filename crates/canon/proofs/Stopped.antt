@@ -5,7 +5,7 @@ use mathlib.Core.Logic.{_⊎_, _↔_}
 use mathlib.Core.Bool.{true}
 use mathlib.Core.List.{List, [], _∷_, _++_}
 use mathlib.Core.Option.{Option, none, some}
-use Prim.Native.Nat.{ℕ, zero, suc, _-_, _≤_, _<_}
+use Prim.Native.Nat.{ℕ, zero, suc, _+_, _-_, _≤_, _<_}
 use native.Mathlib.Nat.{le-refl}
 use native.Mathlib.Decide.{decLe}
 use native.Mathlib.Omega.{arith}
@@ -41,6 +41,11 @@ comes-build : {room : ℕ} {ws : List ℕ} {left : ℕ} {ts : List Ty} {vs : Lis
 unfolding buildFrom
 comes-build begins = refl
 comes-build (passes c e) = rw e at (comes-build c)
+
+-- as many rows are left as the types do not take
+pub comes-room : {room : ℕ} {ws : List ℕ} {left : ℕ} {ts : List Ty} {vs : List ℕ} → Comes room ws left ts vs → left + length ts ≡ room
+comes-room begins = omega arith
+comes-room (passes {left} {ts} {d = d} c e) = omega (arith, comes-room c, length-append ts (d .type ∷ []))
 
 -- the types only grow
 grows : (left : ℕ) (ts : List Ty) (vs : List ℕ) → length ts ≤ length (buildFrom left ts vs .types)

@@ -17,9 +17,13 @@ unfolding greatestAlign
 greatestAlign-alignment [] w = by1
 greatestAlign-alignment (f ∷ fs) w = max-alignment (w .0) (greatestAlign-alignment fs (w .1))
 
+-- what follows of each, follows of all
+pub every-more : {A : Type 0} {P Q : A → Type 0} → ((x : A) → P x → Q x) → (xs : List A) → Every P xs → Every Q xs
+every-more f [] h = tt
+every-more f (x ∷ xs) h = (f x (h .0), every-more f xs (h .1))
+
 below : (a b : ℕ) (fs : List Layout) → a ∣ b → Every (λ f. f .align ∣ a) fs → Every (λ f. f .align ∣ b) fs
-below a b [] d w = tt
-below a b (f ∷ fs) d w = (dvd-trans _ (w .0) d, below a b fs d (w .1))
+below a b fs d w = every-more (λ f e. dvd-trans _ e d) fs w
 
 common : (fs : List Layout) → Aligned fs → Every (λ f. f .align ∣ greatestAlign fs) fs
 unfolding greatestAlign

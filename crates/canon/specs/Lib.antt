@@ -10,5 +10,6 @@ pub mod Row
 pub mod Table
 pub mod Description
 pub mod Question
+pub mod Cost
 pub mod Signature
 pub mod Before

@@ -3,7 +3,7 @@ use mathlib.Core.Path.{_≡_, refl, sym, ap, ap₂, _∙_}
 use mathlib.Core.Bool.{Bool, true, false, cond}
 use mathlib.Core.List.{List, [], _∷_, _++_, append-assoc, append-nil}
 use mathlib.Core.Option.{Option, none, some}
-use Prim.Native.Nat.{ℕ, zero, suc, _+_, _*_, max, min}
+use Prim.Native.Nat.{ℕ, _+_, _*_, max, min}
 use native.Mathlib.Omega.{arith}
 use lib.Dec.{leb}
 use lib.ListN.{length, length-append, getElem?}
@@ -28,9 +28,9 @@ use Rattle.canon.specs.Flat.{
   flatCount,
 }
 use Rattle.canon.specs.Pack.{Packed, pack}
-use Rattle.canon.specs.Placement.{Every}
 use Rattle.canon.specs.Row.{countWord, flatWord, rowFlat}
 use Rattle.canon.proofs.Packing.{pack-lt, pack-append}
+use Rattle.canon.proofs.Built.{at-each}
 use Rattle.canon.proofs.Counts.{flags-length}
 use Rattle.canon.proofs.FlatFolds.{
   length-copies,
@@ -226,11 +226,6 @@ module _ {as′ : List (Option ℕ)} (ls : Memory → List (List Core)) (p : (m 
 
 pub flags-words : (n : ℕ) → packed (some (flagsFlat n)) ≡ rowFlat (flagsCount n) (flagsFlat n)
 flags-words n = capped-words (groups n) (flagsFlat n) (flags-length n)
-
-at-each : (P : Ty → Type 0) (ts : List Ty) → Every P ts → (k : ℕ) (t : Ty) → getElem? ts k ≡ some t → P t
-at-each P [] w k t e = let z : _≡_ {A = ℕ} 0 1 = cc in absurd (omega arith)
-at-each P (u ∷ ts) w zero t e = let f : u ≡ t = cc in rw f at (w .0)
-at-each P (u ∷ ts) w (suc k) t e = at-each P ts (w .1) k t e
 
 pub plain-words :
     (m : Memory) (w : ℕ) (t : Ty) →

@@ -18,26 +18,27 @@ use Rattle.head.specs.Heads.{Heading, before, many, heading, bodyAt, hea
 use Rattle.canon.proofs.Bodies.{body-some}
 use Rattle.head.proofs.Sizes.{body-parts}
 
--- a heading that is given is that of some kind's body after the kind word, and the body is there
+-- a heading that is given is that of its kind's body after the kind word, and the body is there
 pub record Headed (ws : List ℕ) (at : ℕ) (h : Heading) : Type 0 where
+  pub known : kindOf (getD ws at 0) ≡ some (h .kind)
   pub is-heading : heading (h .kind) ws (at + 1) ≡ h
   pub there : bodyLength (shapeOf (h .kind)) (getD ws (at + 1) 0) ≤ length ws - (at + 1)
 
 pub headed : (ws : List ℕ) (at : ℕ) (h : Heading) → headAt ws at ≡ is h → Headed ws at h
 unfolding headAt headKind bodyAt
-headed ws at h = past (ltb at (length ws)) (kindOf (getD ws at 0))
+headed ws at h = past (ltb at (length ws)) (kindOf (getD ws at 0)) refl
   where
-    body : (k : Kind) (b : Bool) → ltb (length ws - (at + 1)) (bodyLength (shapeOf k) (getD ws (at + 1) 0)) ≡ b →
+    body : (k : Kind) (b : Bool) → kindOf (getD ws at 0) ≡ some k → ltb (length ws - (at + 1)) (bodyLength (shapeOf k) (getD ws (at + 1) 0)) ≡ b →
         cond b (refuses truncated) (is (heading k ws (at + 1))) ≡ is h → Headed ws at h
-    body k true p e = impossible (cc)
-    body k false p e =
+    body k true known p e = impossible (cc)
+    body k false known p e =
         let q : heading k ws (at + 1) ≡ h = cc in
-        rw (← q) (record { is-heading = refl; there = ltb-false (length ws - (at + 1)) (bodyLength (shapeOf k) (getD ws (at + 1) 0)) p })
+        rw (← q) (record { known = known; is-heading = refl; there = ltb-false (length ws - (at + 1)) (bodyLength (shapeOf k) (getD ws (at + 1) 0)) p })
 
-    past : (b : Bool) (o : Option Kind) → cond b (headKind o ws (at + 1)) (refuses truncated) ≡ is h → Headed ws at h
-    past false o e = impossible (cc)
-    past true none e = impossible (cc)
-    past true (some k) e = body k (ltb (length ws - (at + 1)) (bodyLength (shapeOf k) (getD ws (at + 1) 0))) refl e
+    past : (b : Bool) (o : Option Kind) → kindOf (getD ws at 0) ≡ o → cond b (headKind o ws (at + 1)) (refuses truncated) ≡ is h → Headed ws at h
+    past false o known e = impossible (cc)
+    past true none known e = impossible (cc)
+    past true (some k) known e = body k (ltb (length ws - (at + 1)) (bodyLength (shapeOf k) (getD ws (at + 1) 0))) known refl e
 
 -- the next definition stands after this one and not past the end
 pub head-spans : (ws : List ℕ) (at : ℕ) (h : Heading) → headAt ws at ≡ is h → (at < h .next) × Spans h (length ws)

@@ -13,6 +13,7 @@ use Rattle.build.specs.Means.{accepted}
 use Rattle.build.proofs.Accepted.{accepted-types}
 use Rattle.canon.specs.Answer.{Answer, unless, tooLong, truncated}
 use Rattle.canon.specs.Description.{Built, answered, built, buildAnswer, tableAfter}
+use Rattle.canon.specs.Cost.{rowsRead, reported, buildReads}
 use Rattle.canon.specs.Placement.{Every}
 use Rattle.canon.specs.Row.{rowOf}
 use Rattle.canon.specs.Table.{capacity, putFrom, putRows}
@@ -25,17 +26,17 @@ use Rattle.table.proofs.Putting.{length-with}
 use Rattle.table.proofs.Reading.{row-there, put-there}
 use Rattle.words.specs.Words.{wholeWords, putWords}
 use Rattle.words.proofs.Laws.{length-whole, whole-take, whole-small, put-all, puts-front, puts-over}
-use Rattle.host.specs.Bytes.{tooManyBytes, cutBytes, buildBytes, tableBytes}
+use Rattle.host.specs.Bytes.{tooManyBytes, cutBytes, buildBytes, readsOfBytes, tableBytes}
 use Rattle.host.specs.Local.{withRows}
-use Rattle.host.specs.Numbers.{answerNumber, itself}
+use Rattle.host.specs.Numbers.{buildNumber}
 use Rattle.host.proofs.Decoded.{table-put}
 
 -- A description of whole words, not too many of them
 pub whole-build :
     (w t : List ℕ) {r : ℕ} {l : List ℕ} → length w ≤ 65536 → length w % 4 ≤ 0 →
-    (r ≡ answerNumber itself (buildAnswer (wholeWords w) (wholeWords t))) × (l ≡ putWords 0 (tableAfter (wholeWords w) (wholeWords t)) t) →
-    (r ≡ answerNumber itself (buildBytes w t)) × (l ≡ tableBytes w t)
-unfolding buildBytes tableBytes unless
+    (r ≡ buildNumber (buildAnswer (wholeWords w) (wholeWords t)) (buildReads (wholeWords w) (wholeWords t))) × (l ≡ putWords 0 (tableAfter (wholeWords w) (wholeWords t)) t) →
+    (r ≡ buildNumber (buildBytes w t) (readsOfBytes w t)) × (l ≡ tableBytes w t)
+unfolding buildBytes readsOfBytes tableBytes buildReads unless
 whole-build w t few whole h = rw (le-ltb 65536 (length w) few, le-ltb 0 (length w % 4) whole) h
 
 -- The first 65,536 bytes of a table
@@ -45,6 +46,10 @@ unfolding buildBytes
 first-answer w t =
     ap (λ (a : Answer ℕ). unless (tooManyBytes w) tooLong (unless (cutBytes w) truncated a))
     (ap (buildAnswer (wholeWords w)) (whole-take 16384 t) ∙ build-first (wholeWords w) (wholeWords t))
+
+pub first-reads : (w t : List ℕ) → readsOfBytes w (take 65536 t) ≡ readsOfBytes w t
+unfolding readsOfBytes
+first-reads w t = ap (λ (a : Answer ℕ). reported a (rowsRead (wholeWords w))) (first-answer w t)
 
 pub first-table : (w t : List ℕ) → ((i : ℕ) → getD t i 0 < 256) → tableBytes w (take 65536 t) ++ drop 65536 t ≡ tableBytes w t
 unfolding tableBytes
@@ -151,6 +156,10 @@ module _ (ws t b : List ℕ) (short : length ws ≤ 64) (fits : capacity (length
   pub local-answer : buildAnswer ws t ≡ buildAnswer ws (wholeWords b)
   unfolding buildAnswer
   local-answer = ap (λ (x : Built). answered (length (x .types)) (x .stopped)) same
+
+  pub local-reads : buildReads ws t ≡ buildReads ws (wholeWords b)
+  unfolding buildReads
+  local-reads = ap (λ (a : Answer ℕ). reported a (rowsRead ws)) local-answer
 
   pub local-rows : withRows (tableAfter ws t) (accepted (buildAnswer ws t)) (wholeWords b) ≡ tableAfter ws (wholeWords b)
   unfolding tableAfter

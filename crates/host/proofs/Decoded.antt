@@ -9,7 +9,9 @@ use lib.ListN.{length, getD, take, drop, length-take, drop-of-length-le}
 use lib.Seq.{take-all}
 use borrow.Author.Tests.{eq-eqb, ne-eqb}
 use Rattle.canon.specs.Description.{tableAfter}
-use Rattle.canon.specs.Layout.{Memory}
+use Rattle.canon.specs.Answer.{Answer}
+use Rattle.canon.specs.Cost.{rowsAmong, reported, placementReads}
+use Rattle.canon.specs.Layout.{Memory, Layout}
 use Rattle.canon.specs.Signature.{flattenAnswer, asyncStartAnswer, asyncReturnAnswer}
 use Rattle.canon.specs.Question.{borrowAnswer, placementAnswer, offsetsAfter}
 use Rattle.canon.proofs.Capped.{ask-first, askTwo-first, table-after-first, placement-first, offsets-first}
@@ -66,6 +68,10 @@ placement-cut m t n ws room =
     sym (placement-first m (take 16384 t) n ws room)
     ∙ ap (λ (u : List ℕ). placementAnswer m u n (take 16385 ws) (min 16384 room)) (cut-twice t)
     ∙ placement-first m t n ws room
+
+pub reads-cut : (m : Memory) (t : List ℕ) (n : ℕ) (ws : List ℕ) (room : ℕ) → placementReads m (take 16384 t) n ws room ≡ placementReads m t n ws room
+unfolding placementReads
+reads-cut m t n ws room = ap (λ (a : Answer Layout). reported a (rowsAmong ws)) (placement-cut m t n ws room)
 
 pub offsets-cut : (m : Memory) (t : List ℕ) (n : ℕ) (ws out : List ℕ) → offsetsAfter m (take 16384 t) n ws out ≡ offsetsAfter m t n ws out
 offsets-cut m t n ws out =

@@ -7,18 +7,20 @@ use native.Mathlib.Omega.{arith}
 use lib.Dec.{ltb}
 use lib.ListN.{length, getD, take, drop, length-take}
 use borrow.Author.Tests.{le-ltb}
-use Rattle.canon.specs.Answer.{Leaf, Answer, refused, then, unless, badRow}
+use Rattle.canon.specs.Answer.{Leaf, Answer, ok, refused, then, unless, badRow}
 use Rattle.canon.specs.Row.{Info}
 use Rattle.canon.specs.Table.{capacity}
 use Rattle.canon.specs.Description.{mostWords}
 use Rattle.canon.specs.Layout.{Memory}
-use Rattle.canon.specs.Question.{read, infos, tooMany, noTable, ask, askTwo, typeAnswer, borrowAnswer, layoutsIn, placed, placing, placementAnswer, offsetsAfter}
+use Rattle.canon.specs.Question.{read, infos, tooMany, noTable, ask, askTwo, typeAnswer, borrowAnswer, layoutsIn, Placing, placed, placing, placementAnswer, offsetsAfter}
+use Rattle.canon.specs.Cost.{rowsAmong, reported, placementReads}
 use Rattle.canon.specs.Signature.{flattenAnswer, asyncStartAnswer, asyncReturnAnswer}
 use Rattle.host.specs.Numbers.{refusalNumber}
 use Rattle.host.specs.Picked.{readPicked, Names}
 use Rattle.host.specs.Questions.{questionNumber}
 use Rattle.host.proofs.Picked.{no-rows-is}
-use Rattle.canon.proofs.Questions.{offsets-length}
+use Rattle.canon.proofs.Questions.{placing-starts, offsets-length}
+use Rattle.canon.proofs.Costs.{infos-rows}
 use Rattle.canon.proofs.Capped.{below-first, buffer-front}
 use Rattle.host.specs.declared.question.Question.{Question}
 use Rattle.host.specs.declared.question.Question.the-variants as question
@@ -114,6 +116,18 @@ module _ (p t : List ℕ) (m n : ℕ) (rows : capacity (length p) ≡ m) (there 
     pub placement-alike : (memory : Memory) (room : ℕ) → placementAnswer memory p m us (min 16 room) ≡ placementAnswer memory t n ws room
     unfolding placementAnswer
     placement-alike memory room = rw (placing-alike memory room)
+
+    -- the names are of the form 64+j where the references are
+    counts-alike : (is′ : List Info) → infos (read t n) 0 ws ≡ ok is′ → rowsAmong us ≡ rowsAmong ws
+    counts-alike is′ e = infos-rows p m mine 0 us is′ (named 0 ∙ e) ∙ sym (infos-rows t n there 0 ws is′ e)
+
+    pub reads-alike : (memory : Memory) (room : ℕ) → placementReads memory p m us (min 16 room) ≡ placementReads memory t n ws room
+    unfolding placementReads placementAnswer then
+    reads-alike memory room = rw (placing-alike memory room) (go (placing memory t n ws room) refl)
+      where
+        go : (a : Answer Placing) → placing memory t n ws room ≡ a → reported (then a (λ q. ok (q .layout))) (rowsAmong us) ≡ reported (then a (λ q. ok (q .layout))) (rowsAmong ws)
+        go (refused x i) e = refl
+        go (ok q) e = let s = placing-starts memory t n ws room q e in counts-alike (s .0) (s .1 .gives)
 
     pub offsets-alike : (memory : Memory) (out x : List ℕ) → x ≡ offsetsAfter memory p m us (take 16 out) → x ++ drop 16 out ≡ offsetsAfter memory t n ws out
     unfolding offsetsAfter

@@ -7,6 +7,7 @@ use lib.Dec.{ltb}
 use lib.ListN.{length}
 use Rattle.canon.specs.Answer.{Answer, unless, tooLong, truncated}
 use Rattle.canon.specs.Description.{buildAnswer, tableAfter}
+use Rattle.canon.specs.Cost.{rowsRead, reported}
 use Rattle.words.specs.Words.{wholeWords, putWords}
 
 abbrev pub tooManyBytes : List ℕ → Bool
@@ -17,6 +18,10 @@ cutBytes b = ltb 0 (length b % 4)
 
 unfoldable pub buildBytes : List ℕ → List ℕ → Answer ℕ
 buildBytes b t = unless (tooManyBytes b) tooLong (unless (cutBytes b) truncated (buildAnswer (wholeWords b) (wholeWords t)))
+
+-- "A refused call reports 0"
+unfoldable pub readsOfBytes : List ℕ → List ℕ → ℕ
+readsOfBytes b t = reported (buildBytes b t) (rowsRead (wholeWords b))
 
 unfoldable pub tableBytes : List ℕ → List ℕ → List ℕ
 tableBytes b t = cond (tooManyBytes b) t (cond (cutBytes b) t (putWords 0 (tableAfter (wholeWords b) (wholeWords t)) t))

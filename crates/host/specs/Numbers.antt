@@ -100,9 +100,13 @@ typeWords i = abiWords (i .abi) ++ (i .flatWords .in32 ∷ i .flatWords .in64 �
 abbrev pub layoutNumber : Layout → ℕ
 layoutNumber f = 2 ^ 32 * f .align + f .size
 
--- of a placement: "a layout"
-abbrev pub placementNumber : Layout → ℕ
-placementNumber = layoutNumber
+-- a build: "the count of rows in bits 0 to 31, the rows read back in bits 32 to 55"
+abbrev pub buildNumber : Answer ℕ → ℕ → ℕ
+buildNumber a reads = answerNumber (λ n. 2 ^ 32 * reads + n) a
+
+-- a placement: "the size in bits 0 to 31, the alignment in bits 32 to 35, the rows read back in bits 40 to 55"
+abbrev pub placementNumber : Answer Layout → ℕ → ℕ
+placementNumber a reads = answerNumber (λ f. 2 ^ 40 * reads + layoutNumber f) a
 
 -- a list: "the packed types in bits 0 to 33, two bits each and the first lowest, their count in bits 40 to 47"
 abbrev pub listNumber : Packed → ℕ

@@ -1,7 +1,8 @@
--- What a list's number has room for. 01: "at most 17"; proofs/ carries it from canon's answers.
+-- What an answer's number has room for: of a list, 01: "at most 17"; of a placement, a layout that is not too large. proofs/ carries it from canon's answers.
 use mathlib.Core.Option.{Option, none, some}
 use Prim.Native.Nat.{_^_, _≤_, _<_}
 use Rattle.canon.specs.Answer.{Answer, ok, refused}
+use Rattle.canon.specs.Layout.{Layout, largestNumber}
 use Rattle.canon.specs.Pack.{Packed}
 use Rattle.signature.specs.Packs.{PackedSignature}
 
@@ -14,6 +15,9 @@ ShortFlat (some p) = ShortList p
 
 abbrev pub ShortSignature : PackedSignature → Type 0
 ShortSignature s = ShortList (s .params) × ShortList (s .results)
+
+abbrev pub ShortLayout : Layout → Type 0
+ShortLayout f = (f .align ≤ 8) × (f .size ≤ largestNumber)
 
 -- a fact of the value, where there is one
 abbrev pub IfAnswered : {A : Type 0} → (A → Type 0) → Answer A → Type 0

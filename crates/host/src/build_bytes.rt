@@ -5,9 +5,10 @@ ghost use Prim.Native.Nat.{_*_, _/_, _≤_, min};
 ghost use lib.ListN.{length, take};
 ghost use Rattle.canon.specs.Table.{capacity};
 ghost use Rattle.canon.specs.Description.{buildAnswer, tableAfter};
+ghost use Rattle.canon.specs.Cost.{buildReads};
 ghost use Rattle.words.specs.Words.{wholeWords, putWords};
-ghost use Rattle.host.specs.Numbers.{answerNumber, itself};
-ghost use Rattle.host.specs.Bytes.{buildBytes, tableBytes};
+ghost use Rattle.host.specs.Numbers.{buildNumber};
+ghost use Rattle.host.specs.Bytes.{buildBytes, readsOfBytes, tableBytes};
 ghost use Rattle.host.specs.Local.{withRows};
 use crate::packing::built_number;
 use crate::packing::refused;
@@ -36,7 +37,7 @@ const LOCAL_ROWS: usize = SHORT_WORDS / 2;
 const LOCAL_WORDS: usize = LOCAL_ROWS * ROW_WORDS;
 
 fn build_into(words: &[u32], table: &mut [u32], bytes: &mut [u8]) -> u64
-    ensures { λ r. ⌜ r ≡ answerNumber itself (buildAnswer (now (words .entry)) (now (table .entry))) ⌝ }
+    ensures { λ r. ⌜ r ≡ buildNumber (buildAnswer (now (words .entry)) (now (table .entry))) (buildReads (now (words .entry)) (now (table .entry))) ⌝ }
     ensures { λ _. ⌜ (now (table .exit) ≡ tableAfter (now (words .entry)) (now (table .entry))) × (length (now (table .exit)) ≡ length (now (table .entry))) ⌝ }
     ensures { λ _. ⌜ now (bytes .exit) ≡ putWords 0 (take (length (now (bytes .entry)) / 4) (now (table .exit))) (now (bytes .entry)) ⌝ }
 {
@@ -47,7 +48,7 @@ fn build_into(words: &[u32], table: &mut [u32], bytes: &mut [u8]) -> u64
 
 fn build_long(words: &[u8], table: &mut [u8]) -> u64
     requires { ⌜ (length (now words) ≤ 65536) × (length (now table) ≤ 65536) ⌝ }
-    ensures { λ r. ⌜ r ≡ answerNumber itself (buildAnswer (wholeWords (now (words .entry))) (wholeWords (now (table .entry)))) ⌝ }
+    ensures { λ r. ⌜ r ≡ buildNumber (buildAnswer (wholeWords (now (words .entry))) (wholeWords (now (table .entry)))) (buildReads (wholeWords (now (words .entry))) (wholeWords (now (table .entry)))) ⌝ }
     ensures { λ _. ⌜ now (table .exit) ≡ putWords 0 (tableAfter (wholeWords (now (words .entry))) (wholeWords (now (table .entry)))) (now (table .entry)) ⌝ }
 {
     let mut ws = [0u32; MAX_WORDS];
@@ -69,7 +70,7 @@ fn give_rows(table: &[u32], rows: u32, bytes: &mut [u8])
 
 fn build_rows(words: &[u32], table: &mut [u32], bytes: &mut [u8]) -> u64
     requires { ⌜ (length (now words) ≤ 64) × (capacity (length (now table)) ≡ min 32 (capacity (length (now bytes) / 4))) ⌝ }
-    ensures { λ r. ⌜ r ≡ answerNumber itself (buildAnswer (now (words .entry)) (wholeWords (now (bytes .entry)))) ⌝ }
+    ensures { λ r. ⌜ r ≡ buildNumber (buildAnswer (now (words .entry)) (wholeWords (now (bytes .entry)))) (buildReads (now (words .entry)) (wholeWords (now (bytes .entry)))) ⌝ }
     ensures { λ _. ⌜ now (bytes .exit) ≡ putWords 0 (tableAfter (now (words .entry)) (wholeWords (now (bytes .entry)))) (now (bytes .entry)) ⌝ }
 {
     let built = build(words, table);
@@ -91,7 +92,7 @@ fn local_words(bytes: &[u8]) -> usize
 
 fn build_short(words: &[u8], table: &mut [u8]) -> u64
     requires { ⌜ length (now words) ≤ 256 ⌝ }
-    ensures { λ r. ⌜ r ≡ answerNumber itself (buildAnswer (wholeWords (now (words .entry))) (wholeWords (now (table .entry)))) ⌝ }
+    ensures { λ r. ⌜ r ≡ buildNumber (buildAnswer (wholeWords (now (words .entry))) (wholeWords (now (table .entry)))) (buildReads (wholeWords (now (words .entry))) (wholeWords (now (table .entry)))) ⌝ }
     ensures { λ _. ⌜ now (table .exit) ≡ putWords 0 (tableAfter (wholeWords (now (words .entry))) (wholeWords (now (table .entry)))) (now (table .entry)) ⌝ }
 {
     let mut ws = [0u32; SHORT_WORDS];
@@ -105,7 +106,7 @@ fn build_short(words: &[u8], table: &mut [u8]) -> u64
 // No cell stands beyond the byte 65,536 of a table: a longer one is cut as in `ask_bytes`.
 #[no_mangle]
 pub extern "C" fn lampughjata_build_bytes(words: &[u8], table: &mut [u8]) -> u64
-    ensures { λ r. ⌜ r ≡ answerNumber itself (buildBytes (now (words .entry)) (now (table .entry))) ⌝ }
+    ensures { λ r. ⌜ r ≡ buildNumber (buildBytes (now (words .entry)) (now (table .entry))) (readsOfBytes (now (words .entry)) (now (table .entry))) ⌝ }
     ensures { λ _. ⌜ now (table .exit) ≡ tableBytes (now (words .entry)) (now (table .entry)) ⌝ }
 {
     if words.len() > MAX_BYTES {

@@ -1,19 +1,20 @@
 // Packs each answer into one number; docs/HOST.md says which bits it takes.
 ghost use mathlib.Core.Path.{_≡_};
-ghost use Prim.Native.Nat.{_<_};
+ghost use Prim.Native.Nat.{_≤_, _<_};
 ghost use lib.ListN.{length};
 ghost use Rattle.canon.specs.Row.{countWord};
 ghost use Rattle.types.specs.Means.{numberOf, roundedMeans, countMeans, discriminantMeans, layoutMeans, abiMeans, infoAnswerMeans, variantMeans, nextMeans};
 ghost use Rattle.flat_types.specs.Lists.{words};
-ghost use Rattle.build.specs.Means.{builtMeans};
-ghost use Rattle.questions.specs.Means.{typeInfoMeans, typeMeans, layoutAnswerMeans};
+ghost use Rattle.build.specs.Means.{builtMeans, builtReads};
+ghost use Rattle.questions.specs.Means.{typeInfoMeans, typeMeans, layoutAnswerMeans, placementMeans, wholeReads};
 ghost use Rattle.signature.specs.Means.{flattenedMeans, borrowMeans, signatureAnswerMeans};
-ghost use Rattle.host.specs.Numbers.{refusalNumber, answerNumber, yesNumber, leafNumber, itself, chosen, abiWords, innerWords, fieldWords, typeWords, layoutNumber, placementNumber, listNumber, flattenedNumber, signatureLists};
-ghost use Rattle.host.specs.Short.{ShortList, ShortFlat, ShortSignature, IfAnswered};
+ghost use Rattle.host.specs.Numbers.{refusalNumber, answerNumber, yesNumber, leafNumber, itself, chosen, abiWords, innerWords, fieldWords, typeWords, layoutNumber, buildNumber, placementNumber, listNumber, flattenedNumber, signatureLists};
+ghost use Rattle.host.specs.Short.{ShortList, ShortFlat, ShortSignature, ShortLayout, IfAnswered};
 use crate::lent::INFO_WORDS;
 use build::Built;
 use flat_types::FlatList;
 use questions::LayoutAnswer;
+use questions::PlacementAnswer;
 use questions::TypeAnswer;
 use questions::TypeInfo;
 use signature::BorrowAnswer;
@@ -36,6 +37,11 @@ const REFUSAL: u64 = 0x0100_0000_0000_0000;
 const COUNT: u64 = 0x0100_0000_0000;
 
 const ALIGN: u64 = 0x0001_0000_0000;
+
+// The rows that a build read back are told from bit 32 on, those of a placement from bit 40 on.
+const BUILD_READS: u64 = 0x0001_0000_0000;
+
+const PLACEMENT_READS: u64 = 0x0100_0000_0000;
 
 // Bit 55 alone says "memory", in place of a list.
 const IN_MEMORY: u64 = 0x0080_0000_0000_0000;
@@ -150,10 +156,10 @@ pub(crate) fn field_number(answer: NextField, k: u32) -> u64
 }
 
 pub(crate) fn built_number(answer: Built) -> u64
-    ensures { λ r. ⌜ r ≡ answerNumber itself (builtMeans answer) ⌝ }
+    ensures { λ r. ⌜ r ≡ buildNumber (builtMeans answer) (builtReads answer) ⌝ }
 {
     match answer {
-        Built::Rows(n) => wide(n),
+        Built::Rows(n, reads) => BUILD_READS * wide(reads) + wide(n),
         Built::Refused(why, index) => refused(why, index.0),
     }
 }
@@ -210,12 +216,16 @@ pub(crate) fn layout_number(answer: LayoutAnswer) -> u64
     }
 }
 
-pub(crate) fn placement_number(answer: LayoutAnswer) -> u64
-    ensures { λ r. ⌜ r ≡ answerNumber placementNumber (layoutAnswerMeans answer) ⌝ }
+pub(crate) fn placement_number(answer: PlacementAnswer) -> u64
+    requires { ⌜ IfAnswered ShortLayout (placementMeans answer) × (wholeReads answer ≤ 16384) ⌝ }
+    ensures { λ r. ⌜ r ≡ placementNumber (placementMeans answer) (wholeReads answer) ⌝ }
 {
     match answer {
-        LayoutAnswer::Layout(layout) => packed_layout(layout),
-        LayoutAnswer::Refused(why, position) => refused(why, position.0),
+        PlacementAnswer::Whole(whole) => {
+            let layout = whole.layout;
+            PLACEMENT_READS * wide(whole.reads) + packed_layout(layout)
+        }
+        PlacementAnswer::Refused(why, position) => refused(why, position.0),
     }
 }
 

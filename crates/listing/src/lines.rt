@@ -110,7 +110,7 @@ pub(crate) fn put_answer(out: &mut [u8], at: usize, built: Built) -> usize
     ensures { λ r. ⌜ Puts (now (out .entry)) at (endLine (builtMeans built)) 30 r (now (out .exit)) ⌝ }
 {
     match built {
-        Built::Rows(count) => put_ok(out, at, count),
+        Built::Rows(count, _) => put_ok(out, at, count),
         Built::Refused(why, index) => put_refused(out, at, why.number(), index.0),
     }
 }

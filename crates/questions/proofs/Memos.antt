@@ -17,7 +17,7 @@ use Rattle.canon.specs.Types.{plain}
 use Rattle.canon.specs.Table.{rowAt}
 use Rattle.canon.specs.Question.{plainInfo, readRow, read, infos, noTable, typeAnswer, sizeAlignAnswer, layoutsIn}
 use Rattle.canon.proofs.Tests.{impossible}
-use Rattle.canon.proofs.Cells.{room-fits, rows-there}
+use Rattle.canon.proofs.Cells.{rows-most}
 use Rattle.canon.proofs.Questions.{read-aligned}
 use Rattle.canon.proofs.Rounding.{Alignment, alignment-pos}
 use Rattle.canon.proofs.Tightest.{Aligned}
@@ -65,7 +65,7 @@ unfolding read
 read-below t n w i e h = go (leb 64 w) (ltb (w - 64) n) refl refl h
   where
     few : n ≤ 1024
-    few = omega (arith, rows-there t n e, room-fits (length t) .0)
+    few = rows-most t n e
 
     go :
         (b c : Bool) → leb 64 w ≡ b → ltb (w - 64) n ≡ c →

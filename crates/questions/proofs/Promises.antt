@@ -1,6 +1,6 @@
 -- What the promises say of the standard: a placement answered is the tightest, one refused as too large exists in no form, and on a table that
 -- a build wrote each question answers for the types themselves. Of one list in the two memories, that the wider is never the smaller; of one with
--- references appended, that no offset before them moves.
+-- references appended, that no offset before them moves. And how many rows it read back.
 use mathlib.Core.Path.{_≡_, refl, sym, ap, _∙_}
 use mathlib.Core.Logic.{_↔_}
 use mathlib.Core.List.{List, _++_, map, append-assoc}
@@ -20,6 +20,8 @@ use Rattle.canon.specs.Row.{Info, infoOf}
 use Rattle.canon.specs.Description.{reference, built, tableAfter}
 use Rattle.canon.specs.Question.{ask, typeAnswer, sizeAlignAnswer, layoutsIn, Placing, placed, placing, placementAnswer, bufferAfter, offsetsAfter}
 use Rattle.canon.specs.Placement.{NoPlacement, NoneLater}
+use Rattle.canon.specs.Cost.{rowsAmong, reported, placementReads}
+use Rattle.canon.proofs.Costs.{placement-within}
 use Rattle.canon.proofs.Wider.{_≼_}
 use Rattle.canon.proofs.Tests.{impossible}
 use Rattle.canon.proofs.Refusals.{Tightest}
@@ -33,15 +35,16 @@ use Rattle.types.specs.declared.memory.Memory.{Memory}
 use Rattle.types.specs.declared.memory.Memory.the-variants.{Memory32, Memory64}
 use Rattle.flat_types.specs.Lists.{packed}
 use Rattle.table.specs.declared.info.MemberPosition.{MemberPosition}
-use Rattle.questions.specs.Means.{typeMeans, layoutAnswerMeans, gatheredMeans}
+use Rattle.questions.specs.Means.{typeMeans, layoutAnswerMeans, placementMeans, wholeReads, gatheredMeans}
 use Rattle.questions.specs.Gathers.{together, gatherAnswer}
 use Rattle.questions.specs.Steps.{layoutPart}
 use Rattle.questions.specs.declared.answer.TypeAnswer.{TypeAnswer}
 use Rattle.questions.specs.declared.answer.LayoutAnswer.{LayoutAnswer}
-use Rattle.questions.specs.declared.answer.LayoutAnswer.the-variants as answer
+use Rattle.questions.specs.declared.answer.Whole.{Whole}
+use Rattle.questions.specs.declared.answer.PlacementAnswer.{PlacementAnswer}
+use Rattle.questions.specs.declared.answer.PlacementAnswer.the-variants as answer
 use Rattle.questions.specs.declared.list.Gathered.{Gathered}
-use Rattle.types.proofs.Told.{told}
-use Rattle.questions.proofs.Unique.{layoutAnswerOf, layout-back}
+use Rattle.questions.proofs.Unique.{whole-told, refusal-told}
 use Rattle.questions.proofs.ask.canonical_abi.Reads as canonical-abi
 use Rattle.questions.proofs.member.size_align.Reads as size-align
 use Rattle.questions.proofs.list.gather.Reads as gather
@@ -66,22 +69,22 @@ module _
     (reads : Reads (now t) n (now ws) (length (now o)) is′)
   where
     pub placement-tightest :
-        (f : Layout) → placement.Post κs (m, (t, (n, (ws, (o, tt))))) (answer.Layout f) (m, (t, (n, (ws, (at-last o l, tt))))) →
-        (os : List ℕ) × (l ≡ os ++ drop (length os) (now o)) × Tightest (layoutsIn (memoryOf m) is′) (record { layout = layoutMeans f; offsets = os })
+        (w : Whole) → placement.Post κs (m, (t, (n, (ws, (o, tt))))) (answer.Whole w) (m, (t, (n, (ws, (at-last o l, tt))))) →
+        (os : List ℕ) × (l ≡ os ++ drop (length os) (now o)) × Tightest (layoutsIn (memoryOf m) is′) (record { layout = layoutMeans (w .layout); offsets = os })
     unfolding placementAnswer offsetsAfter
-    placement-tightest f h =
-        let r = answered (placing (memoryOf m) (now t) n (now ws) (length (now o))) (layoutMeans f) (now o) l (h .0) (h .1) in
-        (r .0, r .2, placing-tightest (memoryOf m) (record { layout = layoutMeans f; offsets = r .0 }) reads (r .1))
+    placement-tightest w h =
+        let r = answered (placing (memoryOf m) (now t) n (now ws) (length (now o))) (layoutMeans (w .layout)) (now o) l (h .0) (h .1 .0) in
+        (r .0, r .2, placing-tightest (memoryOf m) (record { layout = layoutMeans (w .layout); offsets = r .0 }) reads (r .1))
 
     pub placement-six :
-        (r : LayoutAnswer) → placement.Post κs (m, (t, (n, (ws, (o, tt))))) r (m, (t, (n, (ws, (at-last o l, tt))))) →
+        (r : PlacementAnswer) → placement.Post κs (m, (t, (n, (ws, (o, tt))))) r (m, (t, (n, (ws, (at-last o l, tt))))) →
         ((q : MemberPosition) × (r ≡ answer.Refused TooLarge q)) ↔ NoPlacement (layoutsIn (memoryOf m) is′)
     unfolding placementAnswer then
     placement-six r h =
         let six = placing-six (memoryOf m) reads in (
-          λ g. six .0 (g .0 .0, refusal-passes (placing (memoryOf m) (now t) n (now ws) (length (now o))) tooLarge (g .0 .0) (sym (ap layoutAnswerMeans (g .1)) ∙ h .0)),
+          λ g. six .0 (g .0 .0, refusal-passes (placing (memoryOf m) (now t) n (now ws) (length (now o))) tooLarge (g .0 .0) (sym (ap placementMeans (g .1)) ∙ h .0)),
           λ none. let g = six .1 none in
-              (record { 0 = g .0 }, told layoutAnswerMeans layoutAnswerOf layout-back r (answer.Refused TooLarge (record { 0 = g .0 })) (h .0 ∙ rw (g .1))),
+              (record { 0 = g .0 }, refusal-told r TooLarge (record { 0 = g .0 }) (h .0 ∙ rw (g .1))),
         )
 
 -- Tables that a build wrote, of a description ws into a buffer t₀
@@ -120,17 +123,17 @@ module _ (m : Memory) (t : RefT (List ℕ)) (n : ℕ) (refs : RefT (List ℕ)) (
         (ask-built (λ is′. placed (layoutsIn (memoryOf m) is′)) names ∙ ap placed (layouts-typed (memoryOf m) us))
 
     pub placed-of :
-        (κs : Lfts 3) (o : RefT (List ℕ)) (r : LayoutAnswer) (l : List ℕ) → length (now refs) ≤ length (now o) →
+        (κs : Lfts 3) (o : RefT (List ℕ)) (r : PlacementAnswer) (l : List ℕ) → length (now refs) ≤ length (now o) →
         placement.Post κs (m, (t, (n, (refs, (o, tt))))) r (m, (t, (n, (refs, (at-last o l, tt))))) →
-        (layoutAnswerMeans r ≡ layoutPart (placed (map (layout (memoryOf m)) us))) × (l ≡ bufferAfter (placed (map (layout (memoryOf m)) us)) (now o))
+        (placementMeans r ≡ layoutPart (placed (map (layout (memoryOf m)) us))) × (l ≡ bufferAfter (placed (map (layout (memoryOf m)) us)) (now o))
     unfolding placementAnswer offsetsAfter
     placed-of κs o r l fits h =
-        (h .0 ∙ rw (placing-of (length (now o)) fits), h .1 ∙ rw (placing-of (length (now o)) fits))
+        (h .0 ∙ rw (placing-of (length (now o)) fits), h .1 .0 ∙ rw (placing-of (length (now o)) fits))
 
 -- One list of references placed in both memories, over a table that a build wrote, both buffers with room for the offsets or neither
 
 module _
-    (κs κs′ : Lfts 3) (t refs o o′ : RefT (List ℕ)) (n : ℕ) (ws t₀ : List ℕ) (r r′ : LayoutAnswer) (l l′ : List ℕ)
+    (κs κs′ : Lfts 3) (t refs o o′ : RefT (List ℕ)) (n : ℕ) (ws t₀ : List ℕ) (r r′ : PlacementAnswer) (l l′ : List ℕ)
     (table : now t ≡ tableAfter ws t₀) (rows : n ≤ length (built ws t₀ .types))
     (room : ltb (length (now o)) (length (now refs)) ≡ ltb (length (now o′)) (length (now refs)))
     (narrow : placement.Post κs (Memory32, (t, (n, (refs, (o, tt))))) r (Memory32, (t, (n, (refs, (at-last o l, tt))))))
@@ -141,17 +144,17 @@ module _
 
     -- what 64 accepts, 32 accepts: no larger, and no offset later
     pub narrow-accepts :
-        (g : Layout) → r′ ≡ answer.Layout g →
-        (f : Layout) × (r ≡ answer.Layout f) × (layoutMeans f ≼ layoutMeans g) × NoneLater (take (length (now refs)) l) (take (length (now refs)) l′)
+        (v : Whole) → r′ ≡ answer.Whole v →
+        (u : Whole) × (r ≡ answer.Whole u) × (layoutMeans (u .layout) ≼ layoutMeans (v .layout)) × NoneLater (take (length (now refs)) l) (take (length (now refs)) l′)
     unfolding placementAnswer offsetsAfter then
-    narrow-accepts g e =
-        let b = answered (placing mem64 (now t) n (now refs) (length (now o′))) (layoutMeans g) (now o′) l′ (sym (ap layoutAnswerMeans e) ∙ wide .0) (wide .1) in
+    narrow-accepts w e =
+        let b = answered (placing mem64 (now t) n (now refs) (length (now o′))) (layoutMeans (w .layout)) (now o′) l′ (sym (ap placementMeans e) ∙ wide .0) (wide .1 .0) in
         let p = beside-accepted beside (b .1) in
         let f : Layout = record { size = p .0 .layout .size; align = p .0 .layout .align } in
-        let u : take (length (now refs)) l ≡ p .0 .offsets = ap (take (length (now refs))) (narrow .1) ∙ offsets-written mem32 (now t) n (now refs) (now o) (p .0) (p .1) in
-        let v : take (length (now refs)) l′ ≡ b .0 = ap (take (length (now refs))) (wide .1) ∙ offsets-written mem64 (now t) n (now refs) (now o′) _ (b .1) in (
-          f,
-          told layoutAnswerMeans layoutAnswerOf layout-back r (answer.Layout f) (narrow .0 ∙ ap layoutPart (p .1)),
+        let u : take (length (now refs)) l ≡ p .0 .offsets = ap (take (length (now refs))) (narrow .1 .0) ∙ offsets-written mem32 (now t) n (now refs) (now o) (p .0) (p .1) in
+        let v : take (length (now refs)) l′ ≡ b .0 = ap (take (length (now refs))) (wide .1 .0) ∙ offsets-written mem64 (now t) n (now refs) (now o′) _ (b .1) in (
+          record { layout = f; reads = wholeReads r },
+          whole-told r f (narrow .0 ∙ ap layoutPart (p .1)),
           p .2,
           rw (u, v) (p .3),
         )
@@ -160,24 +163,38 @@ module _
     pub wide-refuses : (x : Refusal) (p : MemberPosition) → r ≡ answer.Refused x p → (q : MemberPosition) × (r′ ≡ answer.Refused x q)
     unfolding placementAnswer then
     wide-refuses x p e =
-        let a = refusal-passes (placing mem32 (now t) n (now refs) (length (now o))) (numberOf x) (p .0) (sym (ap layoutAnswerMeans e) ∙ narrow .0) in
+        let a = refusal-passes (placing mem32 (now t) n (now refs) (length (now o))) (numberOf x) (p .0) (sym (ap placementMeans e) ∙ narrow .0) in
         let j = beside-refused beside a in
-        (record { 0 = j .0 }, told layoutAnswerMeans layoutAnswerOf layout-back r′ (answer.Refused x (record { 0 = j .0 })) (wide .0 ∙ ap layoutPart (j .1)))
+        (record { 0 = j .0 }, refusal-told r′ x (record { 0 = j .0 }) (wide .0 ∙ ap layoutPart (j .1)))
+
+-- 02, order 6: "Placement reports likewise for its references"
+
+module _
+    (κs : Lfts 3) (m : Memory) (t : RefT (List ℕ)) (n : ℕ) (refs o : RefT (List ℕ)) (r : PlacementAnswer) (l : List ℕ)
+    (promise : placement.Post κs (m, (t, (n, (refs, (o, tt))))) r (m, (t, (n, (refs, (at-last o l, tt))))))
+  where
+    -- accepted, the references of the form 64+j; and never more than the references
+    pub placement-reads-are : (f : canon.Layout) → placementMeans r ≡ ok f → wholeReads r ≡ rowsAmong (now refs)
+    unfolding placementReads
+    placement-reads-are f e = promise .1 .1 ∙ ap (λ (a : Answer canon.Layout). reported a (rowsAmong (now refs))) (sym (promise .0) ∙ e)
+
+    pub placement-reads-within : wholeReads r ≤ length (now refs)
+    placement-reads-within = rw (promise .1 .1) (placement-within (memoryOf m) (now t) n (now refs) (length (now o)))
 
 -- Two lists in one memory, one the other with references appended, over any table
 
 module _
-    (κs κs′ : Lfts 3) (m : Memory) (t refs refs′ o o′ : RefT (List ℕ)) (n : ℕ) (vs : List ℕ) (f g : Layout) (l l′ : List ℕ)
+    (κs κs′ : Lfts 3) (m : Memory) (t refs refs′ o o′ : RefT (List ℕ)) (n : ℕ) (vs : List ℕ) (u v : Whole) (l l′ : List ℕ)
     (appended : now refs′ ≡ now refs ++ vs)
-    (fewer : placement.Post κs (m, (t, (n, (refs, (o, tt))))) (answer.Layout f) (m, (t, (n, (refs, (at-last o l, tt))))))
-    (all : placement.Post κs′ (m, (t, (n, (refs′, (o′, tt))))) (answer.Layout g) (m, (t, (n, (refs′, (at-last o′ l′, tt))))))
+    (fewer : placement.Post κs (m, (t, (n, (refs, (o, tt))))) (answer.Whole u) (m, (t, (n, (refs, (at-last o l, tt))))))
+    (all : placement.Post κs′ (m, (t, (n, (refs′, (o′, tt))))) (answer.Whole v) (m, (t, (n, (refs′, (at-last o′ l′, tt))))))
   where
     -- no offset before them moves
     pub offsets-kept : take (length (now refs)) l′ ≡ take (length (now refs)) l
     unfolding placementAnswer offsetsAfter
     offsets-kept =
-        let a = answered (placing (memoryOf m) (now t) n (now refs) (length (now o))) (layoutMeans f) (now o) l (fewer .0) (fewer .1) in
-        let b = answered (placing (memoryOf m) (now t) n (now refs′) (length (now o′))) (layoutMeans g) (now o′) l′ (all .0) (all .1) in
+        let a = answered (placing (memoryOf m) (now t) n (now refs) (length (now o))) (layoutMeans (u .layout)) (now o) l (fewer .0) (fewer .1 .0) in
+        let b = answered (placing (memoryOf m) (now t) n (now refs′) (length (now o′))) (layoutMeans (v .layout)) (now o′) l′ (all .0) (all .1 .0) in
         let c = offsets-begin (memoryOf m) (now t) n (now refs) vs (length (now o)) (length (now o′)) _ _ (a .1) (sym (ap (λ (x : List ℕ). placing (memoryOf m) (now t) n x (length (now o′))) appended) ∙ b .1) in
         let k : length (a .0) ≡ length (now refs) = offsets-length (memoryOf m) (now t) n (now refs) (length (now o)) _ (a .1) in
         let rest = drop (length (b .0)) (now o′) in

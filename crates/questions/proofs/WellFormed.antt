@@ -1,25 +1,24 @@
 -- What one reference gives has good flat words: its count is a byte, and the words are those of canon's list.
 use mathlib.Core.Path.{_≡_, refl, sym, ap, _∙_}
-use mathlib.Core.Bool.{Bool, true, false, cond, _&&_}
+use mathlib.Core.Bool.{Bool, true, false, cond}
 use mathlib.Core.List.{List, [], _∷_, _++_}
 use mathlib.Core.Option.{Option, none, some}
 use Prim.Native.Nat.{ℕ, _≤_}
 use native.Mathlib.Omega.{arith}
-use lib.Dec.{leb, eqb}
+use lib.Dec.{eqb}
 use borrow.Author.Tests.{leb-true, eqb-true, le-leb}
 use Rattle.canon.specs.Answer.{is}
 use Rattle.canon.specs.Types.{Ty}
 use Rattle.canon.specs.Layout.{Memory, mem32, mem64, within}
 use Rattle.canon.specs.Flat.{flatten, flatCount}
 use Rattle.canon.specs.Pack.{Packed}
-use Rattle.canon.specs.Reach.{goodReach}
-use Rattle.canon.specs.Row.{Info, infoOf, typeFlat, rowInfo, rowAbi, word, countOf, countWord, goodLayout, goodCount, unusedZero, goodAbi, isDiscriminant, isGood, flatOf}
+use Rattle.canon.specs.Row.{Info, infoOf, typeFlat, rowInfo, rowAbi, word, countOf, countWord, goodLayout, goodCount, unusedZero, goodAbi, isGood, flatOf}
 use Rattle.canon.specs.Question.{read}
 use Rattle.canon.proofs.Tests.{both-true}
 use Rattle.canon.proofs.Counts.{counted}
 use Rattle.canon.proofs.Rows.{countWord-countOf, flat-back}
 use Rattle.canon.proofs.Reaches.{anyBorrow-more}
-use Rattle.canon.proofs.Questions.{read-has, row-tested}
+use Rattle.canon.proofs.Questions.{read-has, row-tested, after-abi}
 use Rattle.flat_types.specs.Lists.{packed}
 use Rattle.flat_types.proofs.Gathering.{good-packed, flat-more}
 use Rattle.flat_types.proofs.Rows.{words-given}
@@ -30,13 +29,9 @@ use Rattle.questions.specs.Steps.{alone, withMore}
 -- What a good row says of its parts
 
 module _ (r : List ℕ) (good : isGood r ≡ true) where
-  after-abi : unusedZero (rowAbi r .flats) (word r 6) && (unusedZero (rowAbi r .flats) (word r 7) && (isDiscriminant (word r 8) && goodReach (word r 15))) ≡ true
-  unfolding isGood
-  after-abi = both-true (goodAbi (rowAbi r)) _ (both-true (leb (word r 0) 10) _ (both-true (leb 1 (word r 0)) _ good .1) .1) .1
-
   row-unused : (m : Memory) → unusedZero (rowAbi r .flats) (rowPacked m r .types) ≡ true
-  row-unused mem32 = both-true (unusedZero (rowAbi r .flats) (word r 6)) _ after-abi .0
-  row-unused mem64 = both-true (unusedZero (rowAbi r .flats) (word r 7)) _ (both-true (unusedZero (rowAbi r .flats) (word r 6)) _ after-abi .1) .0
+  row-unused mem32 = both-true (unusedZero (rowAbi r .flats) (word r 6)) _ (after-abi r good) .0
+  row-unused mem64 = both-true (unusedZero (rowAbi r .flats) (word r 7)) _ (both-true (unusedZero (rowAbi r .flats) (word r 6)) _ (after-abi r good) .1) .0
 
   row-counted : goodCount (rowAbi r .flats) ≡ true
   unfolding goodAbi

@@ -1,4 +1,5 @@
 -- What this crate's answers stand for: 01's number of a refusal with the position, or 01's values.
+use mathlib.Core.Path.{_≡_}
 use mathlib.Core.List.{List}
 use Prim.Native.Nat.{ℕ}
 use Rattle.canon.specs.Answer.{Leaf, is, no, Answer, ok, refused}
@@ -20,6 +21,8 @@ use Rattle.questions.specs.declared.answer.TypeAnswer.{TypeAnswer}
 use Rattle.questions.specs.declared.answer.TypeAnswer.the-variants as type
 use Rattle.questions.specs.declared.answer.LayoutAnswer.{LayoutAnswer}
 use Rattle.questions.specs.declared.answer.LayoutAnswer.the-variants as layout
+use Rattle.questions.specs.declared.answer.PlacementAnswer.{PlacementAnswer}
+use Rattle.questions.specs.declared.answer.PlacementAnswer.the-variants as placement
 use Rattle.questions.specs.declared.list.Gathering.{Gathering}
 use Rattle.questions.specs.declared.list.Next.{Next}
 use Rattle.questions.specs.declared.list.Next.the-variants as next
@@ -38,6 +41,15 @@ typeMeans (type.Refused r p) = refused (numberOf r) (p .0)
 abbrev pub layoutAnswerMeans : LayoutAnswer → Answer Layout
 layoutAnswerMeans (layout.Layout f) = ok (layoutMeans f)
 layoutAnswerMeans (layout.Refused r p) = refused (numberOf r) (p .0)
+
+abbrev pub placementMeans : PlacementAnswer → Answer Layout
+placementMeans (placement.Whole w) = ok (layoutMeans (w .layout))
+placementMeans (placement.Refused r p) = refused (numberOf r) (p .0)
+
+-- 02, order 6: "Placement reports likewise"; "A refused call reports 0"
+abbrev pub wholeReads : PlacementAnswer → ℕ
+wholeReads (placement.Whole w) = w .reads
+wholeReads (placement.Refused r p) = 0
 
 abbrev pub gatheringMeans : Gathering → Together
 gatheringMeans g = record { flat = words (g .flat); borrow = g .borrow }
@@ -61,8 +73,13 @@ readingMeans (reading.Info i) = is (infoMeans i)
 readingMeans (reading.Refused r) = no (numberOf r)
 
 abbrev pub memberMeans : Member → Leaf Layout
-memberMeans (member.Layout f) = is (layoutMeans f)
+memberMeans (member.Layout f reads) = is (layoutMeans f)
 memberMeans (member.Refused r) = no (numberOf r)
+
+-- for what was not refused, so many rows were read back so far
+abbrev pub MemberReads : Member → ℕ → Type 0
+MemberReads (member.Layout f reads) n = reads ≡ n
+MemberReads (member.Refused r) n = Unit {0}
 
 abbrev pub oneMeans : Next → Leaf Together
 oneMeans (next.One g) = is (gatheringMeans g)

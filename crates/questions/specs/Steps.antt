@@ -8,6 +8,7 @@ use Rattle.canon.specs.Answer.{Leaf, is, andThen, Answer, ok, refused, then, to
 use Rattle.canon.specs.Layout.{Memory, Layout, starts, lastEnd, largestNumber}
 use Rattle.canon.specs.Row.{Info, flatOf, infoLayout}
 use Rattle.canon.specs.Question.{read, infos, Placing, placed, layoutsIn, bufferAfter}
+use Rattle.canon.specs.Cost.{rowsAmong, reported}
 use Rattle.canon.proofs.Tightest.{Aligned}
 use Rattle.canon.specs.Placement.{fourGiB}
 use Rattle.types.specs.Extents.{startExtent, memberOf, closeOf, isLarge, layoutOf}
@@ -16,8 +17,8 @@ use Rattle.flat_types.specs.Lists.{packed}
 use Rattle.flat_types.specs.Places.{appendTo}
 use Rattle.table.specs.declared.info.MemberPosition.{MemberPosition}
 use Rattle.questions.specs.Gathers.{Together, Two, togetherTwo}
-use Rattle.questions.specs.Means.{layoutAnswerMeans}
-use Rattle.questions.specs.declared.answer.LayoutAnswer.{LayoutAnswer}
+use Rattle.questions.specs.Means.{placementMeans, wholeReads}
+use Rattle.questions.specs.declared.answer.PlacementAnswer.{PlacementAnswer}
 use Rattle.questions.specs.declared.placed.Placed.{Placed}
 
 -- what a question takes of what is read
@@ -68,9 +69,14 @@ placedRefs m t n ws = then (infos (read t n) 0 ws) (λ is′. placed (layoutsIn 
 abbrev pub layoutPart : Answer Placing → Answer Layout
 layoutPart a = then a (λ p. ok (p .layout))
 
--- it is answered, and the buffer is what it leaves there
-pub record Places (m : Memory) (t : List ℕ) (n : ℕ) (ws out : List ℕ) (r : LayoutAnswer) (after : List ℕ) : Type 0 where
-  pub answer : layoutAnswerMeans r ≡ layoutPart (placedRefs m t n ws)
+-- it is answered, with the rows that were read back
+pub record Answers (m : Memory) (t : List ℕ) (n : ℕ) (ws : List ℕ) (r : PlacementAnswer) : Type 0 where
+  pub answer : placementMeans r ≡ layoutPart (placedRefs m t n ws)
+  pub reads : wholeReads r ≡ reported (layoutPart (placedRefs m t n ws)) (rowsAmong ws)
+
+-- and the buffer is what it leaves there
+pub record Places (m : Memory) (t : List ℕ) (n : ℕ) (ws out : List ℕ) (r : PlacementAnswer) (after : List ℕ) : Type 0 where
+  pub answers : Answers m t n ws r
   pub buffer : after ≡ bufferAfter (placedRefs m t n ws) out
 
 -- The memo: a word for each reference, its alignment above its size; 0 where none was read

@@ -22,3 +22,15 @@ pub enum LayoutAnswer {
     Layout(Layout),
     Refused(Refusal, MemberPosition),
 }
+
+// What a placement answers of the whole: how many rows were read back for its members, and its layout. In the other order short placements take
+// longer (docs/BENCHMARKS.md).
+pub struct Whole {
+    pub reads: u32,
+    pub layout: Layout,
+}
+
+pub enum PlacementAnswer {
+    Whole(Whole),
+    Refused(Refusal, MemberPosition),
+}

@@ -9,8 +9,10 @@ mod read;
 mod two;
 
 pub use answer::LayoutAnswer;
+pub use answer::PlacementAnswer;
 pub use answer::TypeAnswer;
 pub use answer::TypeInfo;
+pub use answer::Whole;
 pub use ask::canonical_abi;
 pub use list::Gathered;
 pub use list::Gathering;

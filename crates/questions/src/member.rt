@@ -1,14 +1,17 @@
 // Reads the layout of one reference in one memory, off the table or out of a memo of what was read before.
 ghost use mathlib.Core.Path.{_≡_};
-ghost use mathlib.Core.Bool.{false};
-ghost use Prim.Native.Nat.{_+_, _*_, _<_};
+ghost use mathlib.Core.Bool.{false, cond};
+ghost use mathlib.Core.List.{[], _∷_};
+ghost use Prim.Native.Nat.{_+_, _*_, _≤_, _<_};
+ghost use lib.Dec.{leb};
 ghost use lib.ListN.{length, getElem?};
+ghost use Rattle.canon.specs.Cost.{rowsAmong};
 ghost use Rattle.canon.specs.Question.{noTable, plainInfo, sizeAlignAnswer};
 ghost use Rattle.canon.specs.Row.{infoLayout};
 ghost use Rattle.canon.specs.Types.{plain};
 ghost use Rattle.types.specs.Means.{memoryOf, layoutMeans};
 ghost use Rattle.canon.specs.Placement.{fourGiB};
-ghost use Rattle.questions.specs.Means.{memberMeans, layoutAnswerMeans};
+ghost use Rattle.questions.specs.Means.{memberMeans, layoutAnswerMeans, MemberReads};
 ghost use Rattle.questions.specs.Steps.{part, memberLayout, memoLayout, Remembers, Recalled};
 use crate::answer::LayoutAnswer;
 use crate::read::Named;
@@ -24,32 +27,42 @@ use types::Layout;
 use types::Memory;
 use types::Refusal;
 
+// Holds the layout, and how many rows were read back so far.
 pub(crate) enum Member {
-    Layout(Layout),
+    Layout(Layout, u32),
     Refused(Refusal),
 }
 
-fn plain_member(memory: Memory, reference: u32) -> Member
+fn plain_member(memory: Memory, reference: u32, reads: u32) -> Member
     ensures { λ r. ⌜ memberMeans r ≡ part (infoLayout (memoryOf memory)) (plainInfo (getElem? plain reference)) ⌝ }
+    ensures { λ r. ⌜ MemberReads r reads ⌝ }
 {
     match plain_info(reference) {
         Found::Info(info) => {
             let layouts = info.layouts;
-            Member::Layout(layouts.in_memory(memory))
+            Member::Layout(layouts.in_memory(memory), reads)
         }
         Found::BadRef => Member::Refused(Refusal::BadRef),
     }
 }
 
-pub(crate) fn read_member(memory: Memory, table: &[u32], n: u32, reference: u32) -> Member
-    requires { ⌜ noTable (now table) n ≡ false ⌝ }
+// Reads a reference, and adds its row, if it names one, to those read before.
+pub(crate) fn read_member(
+    memory: Memory,
+    table: &[u32],
+    n: u32,
+    reference: u32,
+    reads: u32,
+) -> Member
+    requires { ⌜ (noTable (now table) n ≡ false) × (reads ≤ 16384) ⌝ }
     ensures { λ r. ⌜ memberMeans r ≡ memberLayout (memoryOf memory) (now (table .entry)) n reference ⌝ }
+    ensures { λ r. ⌜ MemberReads r (reads + rowsAmong (reference ∷ [])) ⌝ }
 {
     if reference < FIRST_DEFINITION {
-        return plain_member(memory, reference);
+        return plain_member(memory, reference, reads);
     }
     match row_named(table, n, reference) {
-        Named::Row(index) => Member::Layout(row_layout(table, index, memory)),
+        Named::Row(index) => Member::Layout(row_layout(table, index, memory), reads + 1),
         Named::Refused(why) => Member::Refused(why),
     }
 }
@@ -63,8 +76,8 @@ pub fn size_align(memory: Memory, table: &[u32], n: u32, reference: u32) -> Layo
         return LayoutAnswer::Refused(Refusal::BadRow, MemberPosition(0));
     }
     if reference < FIRST_DEFINITION {
-        return match plain_member(memory, reference) {
-            Member::Layout(layout) => LayoutAnswer::Layout(layout),
+        return match plain_member(memory, reference, 0) {
+            Member::Layout(layout, _) => LayoutAnswer::Layout(layout),
             Member::Refused(why) => LayoutAnswer::Refused(why, MemberPosition(0)),
         };
     }
@@ -92,6 +105,13 @@ pub(crate) fn memo_layout(word: u64) -> Layout
     }
 }
 
+// Counts the row of a reference that was looked up, in the table or in the memo. A call of read_member here would take that out of the placement's loop.
+fn reads_of(reference: u32) -> u32
+    ensures { λ r. ⌜ r ≡ cond (leb 64 reference) 1 0 ⌝ }
+{
+    if reference < FIRST_DEFINITION { 0 } else { 1 }
+}
+
 // The memo has a word for each reference that a table can hold, at the reference's own place.
 pub(crate) fn recall(
     memory: Memory,
@@ -99,22 +119,24 @@ pub(crate) fn recall(
     n: u32,
     reference: u32,
     memo: &mut [u64],
+    reads: u32,
 ) -> Member
-    requires { ⌜ (noTable (now table) n ≡ false) × (length (now memo) ≡ 1088) × Remembers (memberLayout (memoryOf memory) (now table) n) (now memo) ⌝ }
+    requires { ⌜ (noTable (now table) n ≡ false) × (reads ≤ 16384) × (length (now memo) ≡ 1088) × Remembers (memberLayout (memoryOf memory) (now table) n) (now memo) ⌝ }
     ensures { λ r. ⌜ memberMeans r ≡ memberLayout (memoryOf memory) (now (table .entry)) n reference ⌝ }
+    ensures { λ r. ⌜ MemberReads r (reads + rowsAmong (reference ∷ [])) ⌝ }
     ensures { λ _. ⌜ Recalled (memberLayout (memoryOf memory) (now (table .entry)) n) reference (now (memo .entry)) (now (memo .exit)) ⌝ }
 {
     let at = reference as usize;
     if at < memo.len() {
         let known = memo[at];
         if known > 0 {
-            return Member::Layout(memo_layout(known));
+            return Member::Layout(memo_layout(known), reads + reads_of(reference));
         }
     }
     match size_align(memory, table, n, reference) {
         LayoutAnswer::Layout(layout) => {
             memo[at] = memo_word(layout);
-            Member::Layout(layout)
+            Member::Layout(layout, reads + reads_of(reference))
         }
         LayoutAnswer::Refused(why, _) => Member::Refused(why),
     }

@@ -1,9 +1,11 @@
 // Places one member after another.
 ghost use mathlib.Core.Path.{_≡_};
+ghost use Rattle.canon.specs.Cost.{reported};
 ghost use Rattle.types.specs.Means.{layoutMeans};
-ghost use Rattle.questions.specs.Means.{layoutAnswerMeans};
+ghost use Rattle.questions.specs.Means.{placementMeans, wholeReads};
 ghost use Rattle.questions.specs.Steps.{nextPlace, finished};
-use crate::answer::LayoutAnswer;
+use crate::answer::PlacementAnswer;
+use crate::answer::Whole;
 use table::MemberPosition;
 use types::Extent;
 use types::FOUR_GIB;
@@ -49,21 +51,23 @@ impl Placed {
         }
     }
 
-    pub(crate) fn finish(self) -> LayoutAnswer
-        ensures { λ r. ⌜ layoutAnswerMeans r ≡ finished self ⌝ }
+    // Answers, with the rows that were read back if all is placed.
+    pub(crate) fn finish(self, reads: u32) -> PlacementAnswer
+        ensures { λ r. ⌜ (placementMeans r ≡ finished self) × (wholeReads r ≡ reported (finished self) reads) ⌝ }
     {
         let extent = self.extent;
         let over = self.over;
         if extent.is_large() {
-            return LayoutAnswer::Refused(Refusal::TooLarge, over);
+            return PlacementAnswer::Refused(Refusal::TooLarge, over);
         }
         let whole = extent.close();
         if whole.is_large() {
-            return LayoutAnswer::Refused(Refusal::TooLarge, MemberPosition(0));
+            return PlacementAnswer::Refused(Refusal::TooLarge, MemberPosition(0));
         }
-        LayoutAnswer::Layout(Layout {
+        let layout = Layout {
             size: whole.end as u32,
             align: whole.align,
-        })
+        };
+        PlacementAnswer::Whole(Whole { reads, layout })
     }
 }

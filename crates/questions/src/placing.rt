@@ -8,10 +8,11 @@ ghost use lib.ListN.{length, take, drop};
 ghost use Rattle.canon.specs.Answer.{ok};
 ghost use Rattle.canon.specs.Layout.{starts};
 ghost use Rattle.canon.specs.Question.{noTable, Placing, placementAnswer, offsetsAfter};
+ghost use Rattle.canon.specs.Cost.{placementReads};
 ghost use Rattle.types.specs.Means.{memoryOf};
-ghost use Rattle.questions.specs.Means.{layoutAnswerMeans};
-ghost use Rattle.questions.specs.Steps.{placedRefs, layoutPart, memberLayout, Remembers, known, Ready, Places};
-use crate::answer::LayoutAnswer;
+ghost use Rattle.questions.specs.Means.{placementMeans, wholeReads};
+ghost use Rattle.questions.specs.Steps.{placedRefs, Answers, memberLayout, Remembers, known, Ready, Places};
+use crate::answer::PlacementAnswer;
 use crate::member::Member;
 use crate::member::memo_layout;
 use crate::member::read_member;
@@ -32,24 +33,26 @@ fn fill(
     n: u32,
     references: &[u32],
     stage: &mut [u32],
-) -> LayoutAnswer
+) -> PlacementAnswer
     requires { ⌜ (noTable (now table) n ≡ false) × (length (now references) ≤ 16384) × (length (now references) ≤ length (now stage)) ⌝ }
-    ensures { λ r. ⌜ layoutAnswerMeans r ≡ layoutPart (placedRefs (memoryOf memory) (now (table .entry)) n (now (references .entry))) ⌝ }
+    ensures { λ r. ⌜ Answers (memoryOf memory) (now (table .entry)) n (now (references .entry)) r ⌝ }
     ensures { λ _. ⌜ ((p : Placing) → placedRefs (memoryOf memory) (now (table .entry)) n (now (references .entry)) ≡ ok p → p .offsets ≡ take (length (now (references .entry))) (now (stage .exit))) ⌝ }
 {
     let mut placed = Placed::NONE;
+    let mut reads: u32 = 0;
     let mut k: usize = 0;
     while k < references.len() {
-        match read_member(memory, table, n, references[k]) {
-            Member::Layout(layout) => {
+        match read_member(memory, table, n, references[k], reads) {
+            Member::Layout(layout, more) => {
                 placed = placed.next(layout, MemberPosition(k as u32));
                 stage[k] = placed.offset;
+                reads = more;
             }
-            Member::Refused(why) => return LayoutAnswer::Refused(why, MemberPosition(k as u32)),
+            Member::Refused(why) => return PlacementAnswer::Refused(why, MemberPosition(k as u32)),
         }
         k += 1;
     }
-    placed.finish()
+    placed.finish(reads)
 }
 
 fn copy(from: &[u32], count: usize, out: &mut [u32])
@@ -70,16 +73,16 @@ fn place_staged(
     references: &[u32],
     stage: &mut [u32],
     out: &mut [u32],
-) -> LayoutAnswer
+) -> PlacementAnswer
     requires { ⌜ (noTable (now table) n ≡ false) × (length (now references) ≤ 16384) × (length (now references) ≤ length (now stage)) × (length (now references) ≤ length (now out)) ⌝ }
     ensures { λ r. ⌜ Places (memoryOf memory) (now (table .entry)) n (now (references .entry)) (now (out .entry)) r (now (out .exit)) ⌝ }
 {
     match fill(memory, table, n, references, stage) {
-        LayoutAnswer::Layout(layout) => {
+        PlacementAnswer::Whole(whole) => {
             copy(stage, references.len(), out);
-            LayoutAnswer::Layout(layout)
+            PlacementAnswer::Whole(whole)
         }
-        LayoutAnswer::Refused(why, position) => LayoutAnswer::Refused(why, position),
+        PlacementAnswer::Refused(why, position) => PlacementAnswer::Refused(why, position),
     }
 }
 
@@ -90,23 +93,25 @@ fn judge(
     n: u32,
     references: &[u32],
     memo: &mut [u64],
-) -> LayoutAnswer
+) -> PlacementAnswer
     requires { ⌜ (noTable (now table) n ≡ false) × (length (now references) ≤ 16384) × (length (now memo) ≡ 1088) × Remembers (memberLayout (memoryOf memory) (now table) n) (now memo) ⌝ }
-    ensures { λ r. ⌜ layoutAnswerMeans r ≡ layoutPart (placedRefs (memoryOf memory) (now (table .entry)) n (now (references .entry))) ⌝ }
+    ensures { λ r. ⌜ Answers (memoryOf memory) (now (table .entry)) n (now (references .entry)) r ⌝ }
     ensures { λ _. ⌜ ((p : Placing) → placedRefs (memoryOf memory) (now (table .entry)) n (now (references .entry)) ≡ ok p → Ready (now (memo .exit)) (now (references .entry)) (p .offsets)) ⌝ }
 {
     let mut placed = Placed::NONE;
+    let mut reads: u32 = 0;
     let mut k: usize = 0;
     while k < references.len() {
-        match recall(memory, table, n, references[k], memo) {
-            Member::Layout(layout) => {
+        match recall(memory, table, n, references[k], memo, reads) {
+            Member::Layout(layout, more) => {
                 placed = placed.next(layout, MemberPosition(k as u32));
+                reads = more;
             }
-            Member::Refused(why) => return LayoutAnswer::Refused(why, MemberPosition(k as u32)),
+            Member::Refused(why) => return PlacementAnswer::Refused(why, MemberPosition(k as u32)),
         }
         k += 1;
     }
-    placed.finish()
+    placed.finish(reads)
 }
 
 // Writes the offsets of references whose layouts the memo has.
@@ -139,7 +144,7 @@ fn place_short(
     n: u32,
     references: &[u32],
     out: &mut [u32],
-) -> LayoutAnswer
+) -> PlacementAnswer
     requires { ⌜ (noTable (now table) n ≡ false) × (length (now references) ≤ 64) × (length (now references) ≤ length (now out)) ⌝ }
     ensures { λ r. ⌜ Places (memoryOf memory) (now (table .entry)) n (now (references .entry)) (now (out .entry)) r (now (out .exit)) ⌝ }
 {
@@ -153,7 +158,7 @@ fn place_middle(
     n: u32,
     references: &[u32],
     out: &mut [u32],
-) -> LayoutAnswer
+) -> PlacementAnswer
     requires { ⌜ (noTable (now table) n ≡ false) × (length (now references) ≤ 1024) × (length (now references) ≤ length (now out)) ⌝ }
     ensures { λ r. ⌜ Places (memoryOf memory) (now (table .entry)) n (now (references .entry)) (now (out .entry)) r (now (out .exit)) ⌝ }
 {
@@ -167,17 +172,17 @@ fn place_long(
     n: u32,
     references: &[u32],
     out: &mut [u32],
-) -> LayoutAnswer
+) -> PlacementAnswer
     requires { ⌜ (noTable (now table) n ≡ false) × (length (now references) ≤ 16384) × (length (now references) ≤ length (now out)) ⌝ }
     ensures { λ r. ⌜ Places (memoryOf memory) (now (table .entry)) n (now (references .entry)) (now (out .entry)) r (now (out .exit)) ⌝ }
 {
     let mut memo = [0u64; MEMO];
     match judge(memory, table, n, references, &mut memo) {
-        LayoutAnswer::Layout(layout) => {
+        PlacementAnswer::Whole(whole) => {
             write(references, &memo, out);
-            LayoutAnswer::Layout(layout)
+            PlacementAnswer::Whole(whole)
         }
-        LayoutAnswer::Refused(why, position) => LayoutAnswer::Refused(why, position),
+        PlacementAnswer::Refused(why, position) => PlacementAnswer::Refused(why, position),
     }
 }
 
@@ -187,7 +192,7 @@ fn place_all(
     n: u32,
     references: &[u32],
     out: &mut [u32],
-) -> LayoutAnswer
+) -> PlacementAnswer
     requires { ⌜ (noTable (now table) n ≡ false) × (length (now references) ≤ 16384) × (length (now references) ≤ length (now out)) ⌝ }
     ensures { λ r. ⌜ Places (memoryOf memory) (now (table .entry)) n (now (references .entry)) (now (out .entry)) r (now (out .exit)) ⌝ }
 {
@@ -207,18 +212,19 @@ pub fn placement(
     n: u32,
     references: &[u32],
     out: &mut [u32],
-) -> LayoutAnswer
-    ensures { λ r. ⌜ layoutAnswerMeans r ≡ placementAnswer (memoryOf memory) (now (table .entry)) n (now (references .entry)) (length (now (out .entry))) ⌝ }
+) -> PlacementAnswer
+    ensures { λ r. ⌜ placementMeans r ≡ placementAnswer (memoryOf memory) (now (table .entry)) n (now (references .entry)) (length (now (out .entry))) ⌝ }
     ensures { λ _. ⌜ now (out .exit) ≡ offsetsAfter (memoryOf memory) (now (table .entry)) n (now (references .entry)) (now (out .entry)) ⌝ }
+    ensures { λ r. ⌜ wholeReads r ≡ placementReads (memoryOf memory) (now (table .entry)) n (now (references .entry)) (length (now (out .entry))) ⌝ }
 {
     if too_many(references) {
-        return LayoutAnswer::Refused(Refusal::TooLong, MemberPosition(0));
+        return PlacementAnswer::Refused(Refusal::TooLong, MemberPosition(0));
     }
     if no_table(table, n) {
-        return LayoutAnswer::Refused(Refusal::BadRow, MemberPosition(0));
+        return PlacementAnswer::Refused(Refusal::BadRow, MemberPosition(0));
     }
     if out.len() < references.len() {
-        return LayoutAnswer::Refused(Refusal::NoRoom, MemberPosition(0));
+        return PlacementAnswer::Refused(Refusal::NoRoom, MemberPosition(0));
     }
     place_all(memory, table, n, references, out)
 }

@@ -69,7 +69,7 @@ fn is_built(entry: &[u32]) -> bool {
     let first = count + 2;
     let mut table = [0u32; TABLE_WORDS];
     match build(&entry[1..end], &mut table) {
-        Built::Rows(rows) => {
+        Built::Rows(rows, _) => {
             if rows as usize * ROW_WORDS == entry.len() - first {
                 holds(&table, &entry[first..])
             } else {
@@ -92,7 +92,7 @@ fn is_refused(entry: &[u32]) -> bool {
     repeat(&entry[3..], &mut words);
     let mut table = [0u32; TABLE_WORDS];
     match build(&words[..count], &mut table) {
-        Built::Rows(_) => false,
+        Built::Rows(_, _) => false,
         Built::Refused(why, index) => {
             if why.number() == word(entry, 0) {
                 index.0 == word(entry, 1)

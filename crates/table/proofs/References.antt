@@ -3,7 +3,7 @@ use mathlib.Core.Path.{_≡_, refl, ap, _∙_}
 use mathlib.Core.Bool.{Bool, false, cond, _||_}
 use mathlib.Core.List.{List, [], _∷_}
 use mathlib.Core.Option.{Option, none, some}
-use Prim.Native.Nat.{ℕ, zero, suc, _≤_, _<_}
+use Prim.Native.Nat.{ℕ, zero, suc, _*_, _/_, _%_, _^_, _≤_, _<_}
 use native.Mathlib.Omega.{arith}
 use lib.Dec.{eqb}
 use lib.ListN.{length, getElem?}
@@ -20,7 +20,7 @@ use Rattle.canon.proofs.Reaches.{word-back}
 use Rattle.flat_types.specs.Lists.{halves, packed, wordsIn}
 use Rattle.flat_types.proofs.References.{same-below}
 use Rattle.flat_types.proofs.Rows.{plain-words}
-use Rattle.table.specs.Means.{Plain, reachMeans, reachOf, infoMeans}
+use Rattle.table.specs.Means.{Plain, PlainLayouts, reachMeans, reachOf, infoMeans}
 use Rattle.table.specs.declared.info.Info.{Info}
 
 -- a scalar of n bytes, in either memory
@@ -46,6 +46,26 @@ rest-is-four k h e = (
   λ m. rw e at (same-below 18 (λ i. cond (armed i) none (mapOption (layout m) (getElem? plain i))) (λ i. cond (armed i) none (some (square 4))) refl k (omega arith)),
   rw e at (same-below 18 (λ i. cond (armed i) none (mapOption flatCount (getElem? plain i))) (λ i. cond (armed i) none (some (some 1))) refl k (omega arith)),
 )
+
+-- or the size by its halvings, and String apart
+
+-- HALVINGS of plain.rt
+abbrev halvings : ℕ
+halvings = 22888584895
+
+abbrev pub halved : ℕ → ℕ
+halved k = 8 / 2 ^ (halvings / 2 ^ (2 * k) % 4)
+
+pub halved-is : (k : ℕ) → k ≤ 17 → eqb k 12 ≡ false → PlainLayouts k (record { in32 = square (halved k); in64 = square (halved k) })
+unfolding layout
+halved-is k h e = wide
+  where
+    sized : (m : Memory) → mapOption (layout m) (getElem? plain k) ≡ some (square (halved k))
+    sized m = rw e at (same-below 18 (λ i. cond (eqb i 12) none (mapOption (layout m) (getElem? plain i))) (λ i. cond (eqb i 12) none (some (square (halved i)))) refl k (omega arith))
+
+    wide : (m : Memory) → mapOption (layout m) (getElem? plain k) ≡ some (within m (record { in32 = square (halved k); in64 = square (halved k) }))
+    wide mem32 = sized mem32
+    wide mem64 = sized mem64
 
 -- only Borrow is a borrow, and none goes deep
 reached : (k : ℕ) → k ≤ 17 → mapOption reach (getElem? plain k) ≡ some (record { borrow = eqb k 14; depth = 0 })

@@ -29,6 +29,7 @@ use Rattle.table.specs.declared.row.Row.{Row}
 use Rattle.table.proofs.cells.capacity.Reads as capacity
 use Rattle.table.proofs.from_bytes.take_row.Reads as take-row
 use Rattle.table.proofs.plain.plain_info.Reads as plain-info
+use Rattle.table.proofs.plain.plain_info_by_shifts.Reads as plain-info-by-shifts
 use Rattle.table.proofs.reach.Reach.deeper.Reads as deeper
 use Rattle.table.proofs.reach.Reach.depth.Reads as depth
 use Rattle.table.proofs.reach.Reach.is_borrow.Reads as is-borrow
@@ -99,6 +100,9 @@ is-good-one x r q g h = g ∙ sym h
 
 pub plain-info-one : (w : ℕ) (r q : Found) → plain-info.Post tt (w, tt) r (w, tt) → plain-info.Post tt (w, tt) q (w, tt) → r ≡ q
 plain-info-one w r q g h = same-found r q (g ∙ sym h)
+
+pub plain-info-by-shifts-one : (w : ℕ) (r q : Found) → plain-info-by-shifts.Post tt (w, tt) r (w, tt) → plain-info-by-shifts.Post tt (w, tt) q (w, tt) → r ≡ q
+plain-info-by-shifts-one w r q g h = same-found r q (g ∙ sym h)
 
 module _ (κs : Lfts 1) (t : RefT (List ℕ)) (j : DefinitionIndex) where
   pub row-info-one : (r q : Info) → row-info.Post κs (t, (j, tt)) r (t, (j, tt)) → row-info.Post κs (t, (j, tt)) q (t, (j, tt)) → r ≡ q

@@ -7,7 +7,7 @@ use Prim.Native.Nat.{ℕ}
 use lib.ListN.{getElem?}
 use Rattle.canon.specs.Answer.{Leaf, is, no, mapOption, badRef, tooDeep}
 use Rattle.canon.specs.Flat.{flatCount}
-use Rattle.canon.specs.Layout.{Memory, within, layout}
+use Rattle.canon.specs.Layout.{Both, Memory, within, Layout, layout}
 use Rattle.canon.specs.Row as canon
 use Rattle.canon.specs.Reach as reach
 use Rattle.canon.specs.Reach.{reachWord, wordReach, deeper, isTooDeep}
@@ -47,10 +47,13 @@ infoMeans i =
       reach = reachMeans (i .reach);
     }
 
--- the five numbers of a reference without a definition
+-- the layouts of a reference without a definition
+abbrev pub PlainLayouts : ℕ → Both Layout → Type 0
+PlainLayouts k ls = (m : Memory) → mapOption (layout m) (getElem? plain k) ≡ some (within m ls)
+
+-- and its five numbers
 abbrev pub Plain : ℕ → canon.Abi → Type 0
-Plain k a =
-    ((m : Memory) → mapOption (layout m) (getElem? plain k) ≡ some (within m (a .layouts))) × (mapOption flatCount (getElem? plain k) ≡ some (a .flats))
+Plain k a = PlainLayouts k (a .layouts) × (mapOption flatCount (getElem? plain k) ≡ some (a .flats))
 
 -- 01's number of the refusal: a bad reference
 abbrev pub foundMeans : Found → Leaf canon.Info

@@ -21,6 +21,7 @@ pub use info::MemberPosition;
 pub use info::NO_LAYOUTS;
 pub use plain::Found;
 pub use plain::plain_info;
+pub use plain::plain_info_by_shifts;
 pub use reach::Deeper;
 pub use reach::Reach;
 pub use read::is_good_row;

@@ -145,11 +145,21 @@ impl Run {
         let mut expected = before.clone();
         let said = model_ask(subject, question, &mut expected);
         if let (Some(original), 0 | 6) = (&mut subject.original, encode::refusal(said)) {
-            let mut held = question.references().filter(|word| *word >= 64);
-            let suspect = |word: u32| subject.suspects.get(word as usize - 64) == Some(&true);
-            let apart = held.any(suspect);
+            let mut held = question.references().filter_map(model::definition_named);
+            let apart = held.any(|index| subject.suspects.get(index) == Some(&true));
             let outcome = original::ask(original, question);
-            self.judge(question, said, offsets_of(&expected), outcome, apart);
+            // The original has no rows read back.
+            let without_reads = match question {
+                Question::Placement { .. } => encode::PLACEMENT_READS.without(said),
+                _ => said,
+            };
+            self.judge(
+                question,
+                without_reads,
+                offsets_of(&expected),
+                outcome,
+                apart,
+            );
         }
         let lists = question.lists().map(bytes_of);
         let lists = lists.each_ref().map(|list| &list[..]);
@@ -419,6 +429,8 @@ fn judge_port(tally: &mut Tally, fault: Option<Fault>, mut answered: Answered) {
     Fault::after(fault, &mut answered);
     let said = answered.expected_answer;
     let same = answered.answer == said && answered.after == answered.expected_after;
+    let reads = answered.call.function.reads();
+    tally.read_back += u64::from(reads.is_some_and(|reads| reads.of(said) > 0));
     tally.coverage.asked(&answered.call, said);
     tally.answer(same, answered.call.cell == Cell::Byte, || {
         let (call, answer) = (&answered.call, answered.answer);

@@ -1,6 +1,6 @@
 //! Which calls were put to the port, and which refusals were due: a whole run that leaves out a call
-//! over words or over bytes, one of the numbers that its k chooses, or a refusal of it, does not pass for
-//! one.
+//! over words or over bytes, one of the numbers that its k chooses, a refusal of it, or its report of rows
+//! read back, does not pass for one.
 use crate::encode;
 use crate::port::{Call, Cell, Function};
 use Function::*;
@@ -33,7 +33,11 @@ const REFUSALS: [(Function, &[u64]); 21] = [
 /// The most numbers that a call's k chooses from, and one more for a k above the last.
 const CHOICES: usize = 10;
 
-/// By function, cell and choice, one bit for each outcome: bit 0 for an answer, bit r for refusal r.
+/// The bit of an answer that reports a row read back.
+const READ_BACK: u64 = 15;
+
+/// By function, cell and choice, one bit for each outcome: bit 0 for an answer, bit r for refusal r, and
+/// the bit above.
 pub struct Coverage([[[u16; CHOICES]; 2]; REFUSALS.len()]);
 
 impl Coverage {
@@ -48,6 +52,13 @@ impl Coverage {
         };
         let seen = &mut self.0[call.function as usize][call.cell as usize];
         seen[chosen as usize] |= 1 << encode::refusal(answer);
+        if call
+            .function
+            .reads()
+            .is_some_and(|reads| reads.of(answer) > 0)
+        {
+            seen[chosen as usize] |= 1 << READ_BACK;
+        }
     }
 
     /// What a whole run must have asked and this one has not.
@@ -61,8 +72,9 @@ impl Coverage {
                 }
                 let seen = &self.0[function as usize][cell as usize][..choices];
                 for (k, seen) in seen.iter().enumerate() {
-                    let outcomes = refusals.iter().chain(&[0]);
-                    let unseen = outcomes.filter(|outcome| seen & 1 << **outcome == 0);
+                    let reported = function.reads().map(|_| READ_BACK);
+                    let outcomes = refusals.iter().copied().chain([0]).chain(reported);
+                    let unseen = outcomes.filter(|outcome| seen & 1 << *outcome == 0);
                     missing.extend(unseen.map(|outcome| {
                         format!("{function:?} over {cell:?}s, k {k}, outcome {outcome}")
                     }));

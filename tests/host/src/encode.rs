@@ -16,12 +16,41 @@ pub fn refusal(answer: u64) -> u64 {
     answer >> 56
 }
 
-/// How many definitions a build accepted: its count, or the index of the refused one.
+/// How many definitions a build accepted: its rows, or the index of the refused one, in the same bits.
 pub fn accepted(answer: u64) -> u64 {
-    match refusal(answer) {
-        0 => answer,
-        _ => answer & u64::from(u32::MAX),
+    answer & u64::from(u32::MAX)
+}
+
+/// The bits of an answer, from this one to bit 55, that report how many rows were read back (order 6).
+#[derive(Clone, Copy)]
+pub struct Reads(u32);
+
+pub const BUILD_READS: Reads = Reads(32);
+pub const PLACEMENT_READS: Reads = Reads(40);
+
+impl Reads {
+    /// The number; 0 in a refusal, which has nothing in these bits.
+    pub fn of(self, answer: u64) -> u64 {
+        (answer & self.bits()) >> self.0
     }
+
+    pub fn without(self, answer: u64) -> u64 {
+        answer & !self.bits()
+    }
+
+    /// The answer with this number in the place of its own.
+    pub fn with(self, answer: u64, reads: u64) -> u64 {
+        self.without(answer) | reads << self.0
+    }
+
+    fn bits(self) -> u64 {
+        (1 << 56) - (1 << self.0)
+    }
+}
+
+/// Rows in the low 32 bits, then the rows read back.
+pub fn build(rows: u64, reads: u64) -> u64 {
+    BUILD_READS.with(rows, reads)
 }
 
 /// Size in the low 32 bits, alignment in bits 32 to 39.
@@ -29,9 +58,9 @@ pub fn layout(size: u64, align: u64) -> u64 {
     size | align << 32
 }
 
-/// A placement's bits are its own, though today they are those of a layout.
-pub fn placement(size: u64, align: u64) -> u64 {
-    layout(size, align)
+/// A layout whose alignment has bits 32 to 35 alone, four bits that are 0, then the rows read back.
+pub fn placement(size: u64, align: u64, reads: u64) -> u64 {
+    PLACEMENT_READS.with(layout(size, align), reads)
 }
 
 /// The packed types in bits 0 to 33, their count in bits 40 to 47.

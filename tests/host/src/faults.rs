@@ -2,9 +2,12 @@
 //! themselves, to show that each is caught.
 use crate::compare::{GUARD, bytes_of};
 use crate::encode;
-use crate::model::{self, BY_MEMORY, MOST_WORDS, ROW, Row, capacity, put_row, words_of};
+use crate::model::{
+    self, BY_MEMORY, Definition, MOST_WORDS, ROW, Row, capacity, put_row, words_of,
+};
 use crate::port::{Answered, Call, Cell, Function};
-use crate::reading::{self, Definition};
+use crate::reading;
+use std::collections::HashSet;
 
 /// What is wrong on purpose.
 #[derive(Clone, Copy, PartialEq, Eq, Debug)]
@@ -50,6 +53,16 @@ pub enum Fault {
     FirstReference,
     /// A map is two deeper than its parts, as if its entry were a definition.
     EntryBetween,
+    /// A build or a placement reports one row too many as read back.
+    OneReadMore,
+    /// A build counts the no-payload marks among what it read back.
+    MarkRead,
+    /// A build counts every word from 64 on as a reference, but for the mark.
+    CountRead,
+    /// A placement counts a definition once, however often its references name it.
+    RepeatOnce,
+    /// A refused build or placement reports what it read back before.
+    RefusedReads,
     /// The port's built rows have the memories exchanged, after the comparison, so that they agree with the model.
     PortMemories,
     /// The same of the original's.
@@ -60,7 +73,7 @@ pub enum Fault {
     OriginalList,
 }
 
-pub const FAULTS: [Fault; 24] = [
+pub const FAULTS: [Fault; 29] = [
     Fault::OffsetOneOff,
     Fault::PositionOneOff,
     Fault::TableWord,
@@ -81,6 +94,11 @@ pub const FAULTS: [Fault; 24] = [
     Fault::FullGroups,
     Fault::FirstReference,
     Fault::EntryBetween,
+    Fault::OneReadMore,
+    Fault::MarkRead,
+    Fault::CountRead,
+    Fault::RepeatOnce,
+    Fault::RefusedReads,
     Fault::PortMemories,
     Fault::OriginalMemories,
     Fault::OriginalSize,
@@ -121,6 +139,7 @@ impl Fault {
         if let Some(fault) = fault {
             fault.in_memory(answered);
             fault.in_depths(answered);
+            fault.in_reads(&answered.call, &mut answered.answer);
             fault.in_answer(&answered.call, &mut answered.answer);
         }
     }
@@ -176,6 +195,40 @@ impl Fault {
             put_row(&mut table, index, &row);
         }
         lent[..4 * table.len()].copy_from_slice(&bytes_of(&table));
+    }
+
+    /// The rows read back are counted by a wrong rule.
+    fn in_reads(self, call: &Call, answer: &mut u64) {
+        let Some(reads) = call.function.reads() else {
+            return;
+        };
+        let is_refused = encode::refusal(*answer) != 0;
+        if is_refused != (self == Fault::RefusedReads) {
+            return;
+        }
+        let due = reads.of(*answer);
+        let description = words_of(call.slices[0]);
+        let built = || reading::definitions(&description, encode::accepted(*answer) as usize);
+        let number = match (self, call.function) {
+            (Fault::OneReadMore, _) => due + 1,
+            (Fault::MarkRead, Function::Build) => due + built().iter().map(marks).sum::<u64>(),
+            (Fault::CountRead, Function::Build) => named_by(&description).count() as u64,
+            (Fault::RepeatOnce, Function::Placement) => {
+                let references = words_of(call.slices[1]);
+                named_by(&references).collect::<HashSet<_>>().len() as u64
+            }
+            (Fault::RefusedReads, Function::Build) => built()
+                .iter()
+                .map(|definition| definition.earlier().count() as u64)
+                .sum(),
+            (Fault::RefusedReads, Function::Placement) => {
+                let references = words_of(call.slices[1]);
+                let before = encode::accepted(*answer) as usize;
+                named_by(&references[..before.min(references.len())]).count() as u64
+            }
+            _ => return,
+        };
+        *answer = reads.with(*answer, number);
     }
 
     fn in_answer(self, call: &Call, answer: &mut u64) {
@@ -255,7 +308,7 @@ fn offset(word: usize) -> usize {
 /// A definition's depth by the fault `FirstReference`, from those of the definitions before it.
 fn over_first_reference(definition: &Definition, before: &[u32]) -> u32 {
     let first = definition.references().next();
-    let named = first.and_then(|word| before.get(word.checked_sub(64)? as usize));
+    let named = first.and_then(|word| before.get(model::definition_named(word)?));
     1 + named.unwrap_or(&0)
 }
 
@@ -264,6 +317,19 @@ fn over_entry(definition: &Definition, before: &[u32]) -> u32 {
     let deepest = definition.earlier().map(|index| before[index]).max();
     let entry = u32::from(definition.kind == 5);
     1 + entry + deepest.unwrap_or(0)
+}
+
+/// How many no-payload marks a definition has.
+fn marks(definition: &Definition) -> u64 {
+    let places = definition.references_and_marks().len();
+    (places - definition.references().count()) as u64
+}
+
+/// The words that would name a definition if each were a reference.
+fn named_by(words: &[u32]) -> impl Iterator<Item = usize> {
+    words
+        .iter()
+        .filter_map(|word| model::definition_named(*word))
 }
 
 /// What a last group that is not full adds to the number that k chooses: four bytes, or one type.

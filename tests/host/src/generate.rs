@@ -1,8 +1,7 @@
 //! Random descriptions, references, infos and rows; and a chain of definitions, which is not random.
 use crate::calls::Info;
-use crate::model::Row;
+use crate::model::{Definition, Row};
 use crate::random::Random;
-use std::ops::Range;
 
 /// What a random description looks like.
 #[derive(Clone, Copy)]
@@ -23,7 +22,8 @@ pub fn description(random: &mut Random, shape: Shape) -> Vec<u32> {
     for index in 0..shape.definitions {
         let begin = words.len();
         definition(random, shape, index, &mut words);
-        let places = places_of_references(&words[begin..]);
+        let whole = Definition::read(&words[begin..]).expect("a definition was added");
+        let places = whole.places;
         if shape.deep && !places.is_empty() {
             if let Some(last) = last_of_chain {
                 let place = random.between(places.start as u64, places.end as u64 - 1);
@@ -33,16 +33,6 @@ pub fn description(random: &mut Random, shape: Shape) -> Vec<u32> {
         }
     }
     words
-}
-
-/// Where a definition's references stand among its words.
-fn places_of_references(definition: &[u32]) -> Range<usize> {
-    match definition[0] {
-        1 | 2 | 4 => 2..definition.len(),
-        6 | 7 => 0..0,
-        10 => 1..2,
-        _ => 1..definition.len(),
-    }
 }
 
 /// So many lists or options, by their kind word, the first of a scalar and each other of the one before.

@@ -132,8 +132,9 @@ pub fn ask(original: &mut Original, question: &Question) -> Outcome {
             None => Outcome::Nothing,
         },
         Question::Placement { memory, .. } => match original.placement(*memory != 0, &first) {
+            // It has no number of rows read back.
             Some(placed) => Outcome::Is(
-                encode::placement(placed.size.into(), placed.align.into()),
+                encode::placement(placed.size.into(), placed.align.into(), 0),
                 placed.offsets,
             ),
             None => Outcome::Panicked,

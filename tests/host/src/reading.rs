@@ -1,50 +1,14 @@
-//! An accepted description taken apart, for what the comparison itself must know of it.
-
-/// One definition: its kind, the number in its words (members, cases, labels, elements), and its
-/// references without no-payload marks.
-pub struct Definition<'a> {
-    pub kind: u32,
-    pub count: u32,
-    references: &'a [u32],
-}
-
-impl Definition<'_> {
-    pub fn references(&self) -> impl Iterator<Item = u32> {
-        let mark = u32::MAX;
-        self.references.iter().copied().filter(move |w| *w != mark)
-    }
-
-    /// The earlier definitions it refers to.
-    pub fn earlier(&self) -> impl Iterator<Item = usize> {
-        self.references()
-            .filter(|w| *w >= 64)
-            .map(|w| w as usize - 64)
-    }
-}
+//! What the comparison itself must know of an accepted description.
+use crate::model::{self, Definition};
 
 /// The first `n` definitions of a description that a build accepted at least so far.
 pub fn definitions(words: &[u32], n: usize) -> Vec<Definition<'_>> {
-    let mut rest = words;
-    let mut found = Vec::with_capacity(n);
-    while found.len() < n {
-        let (count, references, length) = match rest[0] {
-            1 | 2 | 4 => (
-                rest[1],
-                &rest[2..2 + rest[1] as usize],
-                2 + rest[1] as usize,
-            ),
-            3 | 8 => (1, &rest[1..2], 2),
-            5 | 9 => (2, &rest[1..3], 3),
-            6 | 7 => (rest[1], &rest[..0], 2),
-            _ => (rest[2], &rest[1..2], 3),
-        };
-        found.push(Definition {
-            kind: rest[0],
-            count,
-            references,
-        });
-        rest = &rest[length..];
-    }
+    let found: Vec<_> = model::definitions(words).take(n).collect();
+    assert_eq!(
+        found.len(),
+        n,
+        "an accepted description is whole: {words:?}"
+    );
     found
 }
 

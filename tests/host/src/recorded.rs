@@ -18,6 +18,7 @@
 //! Entries 2 to 10 are about the table of the description before them. Memory and async are 0 (32-bit,
 //! sync) or 1. LIST is three words: the count (4294967295 for "memory"), then the packed types' low 32
 //! bits and the bits above. No entry has an enum or variant of 256 or 65,536 cases in it.
+use crate::encode;
 use crate::generate::{self, Shape};
 use crate::model;
 use crate::random::Random;
@@ -120,9 +121,11 @@ impl List {
     /// A description and a question or two about it; nothing if 01 refuses it or it holds a suspect
     /// count.
     fn add(&mut self, words: &[u32], random: &mut Random) {
-        let Ok(n) = model::build(words, &mut vec![0; model::ROW * model::MOST_ROWS]) else {
+        let table = &mut vec![0; model::ROW * model::MOST_ROWS];
+        let Ok(answer) = model::build(words, table) else {
             return;
         };
+        let n = encode::accepted(answer);
         let definitions = reading::definitions(words, n as usize);
         if reading::suspects(&definitions).contains(&true) {
             return;

@@ -12,6 +12,8 @@ pub struct Tally {
     pub answers: u64,
     /// Of these, by a byte call.
     pub by_bytes: u64,
+    /// Of these, builds and placements that report a row read back.
+    pub read_back: u64,
     /// Answers and rows of the original that the model was compared with.
     pub original: u64,
     /// The same for types that hold an enum or variant of 256 or 65,536 cases, and for discriminants,
@@ -47,6 +49,7 @@ impl Tally {
         Tally {
             answers: 0,
             by_bytes: 0,
+            read_back: 0,
             original: 0,
             apart: 0,
             port_rows: 0,
@@ -161,12 +164,13 @@ impl Tally {
 
     pub fn summary(&self) -> String {
         format!(
-            "{} answers of the port compared with the model ({} by byte calls), {} of the original \
-             with the model, {} apart (stand-ins), {} rows of the port and {} of the original compared in \
+            "{} answers of the port compared with the model ({} by byte calls, {} with rows read back), \
+             {} of the original with the model, {} apart (stand-ins), {} rows of the port and {} of the original compared in \
              the two memories, {} refusals 6 where the original panicked and {} where it saturated, {} \
              refusals 9 where it went on and {} where it panicked, in {} s: {} differences",
             self.answers,
             self.by_bytes,
+            self.read_back,
             self.original,
             self.apart,
             self.port_rows,

@@ -6,15 +6,18 @@
 //! docs/DECISIONS.md says.
 
 mod bytes;
+mod definition;
 mod description;
 mod layout;
 mod leaf;
 mod question;
+mod reads;
 mod row;
 mod signature;
 mod table;
 
 pub use bytes::{build_bytes, words_of};
+pub use definition::{Definition, definition_named, definitions};
 pub use description::build;
 pub use layout::Core;
 pub use leaf::leaf;

@@ -1,9 +1,10 @@
 //! 01's questions put to a table.
+use super::definition::definition_named;
 use super::layout::{self, Memory, Passes, Type};
 use super::leaf::info_number;
 use super::signature::{self, Side};
 use super::table::{self, capacity};
-use super::{Answer, MOST_WORDS, Refused, number, row};
+use super::{Answer, MOST_WORDS, Refused, number, reads, row};
 use crate::calls::{Question, WRITTEN};
 use crate::encode;
 
@@ -91,7 +92,8 @@ pub fn ask(
     }
 }
 
-/// "TooLarge names the first member whose start or end passes, 0 if only the size does."
+/// "TooLarge names the first member whose start or end passes, 0 if only the size does." What is accepted
+/// reports the rows that its references name, by order 6.
 fn placement(
     table: &Table,
     memory: Memory,
@@ -111,7 +113,9 @@ fn placement(
     for (word, start) in offsets.iter_mut().zip(&placed.starts) {
         *word = u32::try_from(*start).expect("a start within the limit");
     }
-    Ok(encode::placement(placed.layout.size, placed.layout.align))
+    let reads = reads::of_references(references);
+    let layout = placed.layout;
+    Ok(encode::placement(layout.size, layout.align, reads))
 }
 
 struct Table<'a> {
@@ -154,13 +158,12 @@ impl Table<'_> {
     }
 
     fn resolve(&self, reference: u32) -> Result<Type, u64> {
-        if reference < 64 {
+        let Some(index) = definition_named(reference) else {
             return layout::scalar_of(reference).cloned().ok_or(number::BAD_REF);
-        }
-        let index = reference - 64;
-        if index >= self.n {
+        };
+        if index >= self.n as usize {
             return Err(number::BAD_REF);
         }
-        row::read(&table::row(self.words, index as usize))
+        row::read(&table::row(self.words, index))
     }
 }

@@ -2,6 +2,7 @@
 pub use crate::calls::WRITTEN;
 use crate::calls::{Leaf, Question};
 use crate::compare::GUARD;
+use crate::encode::{BUILD_READS, PLACEMENT_READS, Reads};
 use std::fmt;
 use std::ops::Range;
 
@@ -41,6 +42,15 @@ impl Function {
     /// Whether it is put to a table.
     pub fn is_question(self) -> bool {
         self as u32 > Function::Build as u32
+    }
+
+    /// Where it reports the rows that it read back, if it does.
+    pub fn reads(self) -> Option<Reads> {
+        match self {
+            Function::Build => Some(BUILD_READS),
+            Function::Placement => Some(PLACEMENT_READS),
+            _ => None,
+        }
     }
 
     /// Of a function that answers one of several numbers: which of its own numbers is the k that

@@ -318,7 +318,8 @@ fn table_is(run: &mut Run, words: &[u32], answer: Answer<u64>, table: &[u32]) {
 
 fn accepted(run: &mut Run, words: &[u32], n: u64) -> Built {
     let built = run.description(words);
-    run.tally.consistent(built.answer == n, || {
+    let rows = encode::BUILD_READS.without(built.answer);
+    run.tally.consistent(rows == n, || {
         format!(
             "01's example {words:?} has {n} definitions; the model says {:#x}",
             built.answer
@@ -371,7 +372,7 @@ fn placement_is(
         run,
         &mut built.subject,
         &question,
-        encode::placement(size, align),
+        encode::placement(size, align, 0),
     );
     run.tally.consistent(said == offsets, || {
         format!("01's example {question:?} has offsets {offsets:?}; the model says {said:?}")

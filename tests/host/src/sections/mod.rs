@@ -8,13 +8,14 @@ mod leaves;
 mod limits;
 mod questions;
 mod random;
+mod reads;
 mod short;
 mod sizes;
 mod tables;
 mod ways;
 
 /// A section's name and what it runs.
-pub const SECTIONS: [(&str, fn(&mut Run)); 14] = [
+pub const SECTIONS: [(&str, fn(&mut Run)); 15] = [
     ("01's examples", examples::run),
     ("leaves over numbers", leaves::numbers),
     ("leaves over infos", leaves::infos),
@@ -29,4 +30,5 @@ pub const SECTIONS: [(&str, fn(&mut Run)); 14] = [
     ("tables no build wrote", tables::run),
     ("longer than byte calls look at", beyond::run),
     ("short and long over bytes", ways::run),
+    ("rows read back", reads::run),
 ];

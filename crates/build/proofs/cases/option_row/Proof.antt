@@ -1,7 +1,8 @@
 -- A bad reference, or one payload.
+use borrow.Author.Needs.{needs}
 use Rattle.canon.specs.Answer.{andThen}
 use Rattle.build.specs.Kinds.{optionRow}
-use borrow.Author.Needs.{needs}
+use Rattle.build.proofs.Wording.{if-row-holds}
 use Rattle.build.proofs.cases.option_row.Statement.{statement}
 use Rattle.build.proofs.cases.option_row.Tie as tie
 
@@ -31,17 +32,13 @@ row-requires c κs = search needs
 
 returns : tie.Need-returns
 unfolding andThen optionRow
-returns c = simp
-    (← c .before .before .member-at .ensures, c .enum-told .given .1)
+returns c = (simp (← c .before .before .member-at .ensures .0, c .enum-told .given .1), tt)
 
 returns-2 : tie.Need-returns-2
 unfolding andThen optionRow
-returns-2 c = simp (
-  c .row .ensures,
-  c .before .add .ensures,
-  c .before .before .start .ensures,
-  ← c .before .before .before .before .before .before .member-at .ensures,
-  c .before .before .before .before .payload .given .1,
+returns-2 c = (
+  simp (c .row .ensures, c .before .add .ensures, c .before .before .start .ensures, ← c .before .before .before .before .before .before .member-at .ensures .0, c .before .before .before .before .payload .given .1),
+  if-row-holds (c .row .result) (rw (c .before .before .before .before .payload .given .1) at (c .before .before .before .before .before .before .member-at .ensures .1)),
 )
 
 pub option-row-spec : {M : Type 1} → statement M

@@ -34,17 +34,20 @@ cases-row-requires c κs = search needs
 returns : tie.Need-returns
 unfolding variantRow andThen
 returns c =
-    let a = c .before .before .before .before .before .before .args in
-    rw (between-length (now (a .words)) (a .first) (a .end) (omega arith), ← c .before .before .before .from-count .ensures, c .before .why .given .1)
+    let a = c .before .before .before .before .before .before .args in (
+      rw (between-length (now (a .words)) (a .first) (a .end) (omega arith), ← c .before .before .before .from-count .ensures, c .before .why .given .1),
+      tt,
+    )
 
 returns-2 : tie.Need-returns-2
 unfolding variantRow
-returns-2 c =
-    let a = c .before .before .before .before .before .before .before .args in
-    let s = c .before .before .size .given in
-    rw (between-length (now (a .words)) (a .first) (a .end) (omega arith))
-    (c .cases-row .ensures
-    ∙ sym (then-is (discriminantAnswer (a .end - a .first)) (bytesOf (s .0 .0)) _ (sym (c .before .before .before .before .from-count .ensures) ∙ ap discriminantMeans (s .1))))
+returns-2 c = let a = c .before .before .before .before .before .before .before .args in
+    let s = c .before .before .size .given in (
+      rw (between-length (now (a .words)) (a .first) (a .end) (omega arith))
+          (c .cases-row .ensures .0
+          ∙ sym (then-is (discriminantAnswer (a .end - a .first)) (bytesOf (s .0 .0)) _ (sym (c .before .before .before .before .from-count .ensures) ∙ ap discriminantMeans (s .1)))),
+      c .cases-row .ensures .1,
+    )
 
 pub variant-row-spec : {M : Type 1} → statement M
 variant-row-spec =

@@ -1,21 +1,22 @@
 -- A bad reference, or both extents and the repeated types.
-use Rattle.canon.specs.Layout.{Memory, mem32, mem64, both}
-use Rattle.canon.specs.Row.{noInner, infoLayout}
-use denote.Ref.{now}
+use mathlib.Core.Path.{_≡_, refl, sym, ap, _∙_}
 use Prim.Native.Nat.{_+_, _*_}
+use denote.Ref.{now}
 use lib.ListN.{getD}
+use borrow.Author.Needs.{needs}
 use Rattle.canon.specs.Answer.{mapOption, andThen}
+use Rattle.canon.specs.Layout.{Memory, mem32, mem64, both}
 use Rattle.canon.specs.Flat.{copies}
 use Rattle.canon.specs.Pack.{Packed}
-use Rattle.flat_types.specs.Lists.{unpacked, packed, memoryWords, wordsIn}
-use Rattle.table.specs.Means.{infoMeans, foundMeans}
+use Rattle.canon.specs.Row.{noInner, infoLayout}
 use Rattle.types.specs.Extents.{extentAt}
 use Rattle.types.specs.Means.{extentsMeans}
+use Rattle.flat_types.specs.Lists.{unpacked, packed, memoryWords, wordsIn}
+use Rattle.table.specs.Means.{infoMeans}
+use Rattle.build.specs.Means.{lookedMeans}
 use Rattle.build.specs.Steps.{pairOf, infoFlat, memberLook}
-use Rattle.build.proofs.Wording.{flat-kept, fit-same, then-is}
 use Rattle.build.specs.Kinds.{fixedRow}
-use mathlib.Core.Path.{_≡_, refl, sym, ap, _∙_}
-use borrow.Author.Needs.{needs}
+use Rattle.build.proofs.Wording.{flat-kept, fit-same, then-is, if-row-holds}
 use Rattle.build.proofs.simple.fixed_row.Statement.{statement}
 use Rattle.build.proofs.simple.fixed_row.Tie as tie
 
@@ -53,20 +54,21 @@ fit-row-requires : tie.Need-fit-row-requires
 fit-row-requires c κs = search needs
 
 returns : tie.Need-returns
-unfolding andThen fixedRow
-returns c = simp (← c .before .before .member-at .ensures, c .enum-told .given .1)
+unfolding andThen
+returns c = (simp (← c .before .before .member-at .ensures .0, c .enum-told .given .1), tt)
 
 returns-2 : tie.Need-returns-2
 unfolding fixedRow
-returns-2 c =
-    let i = c .before .before .before .before .before .before .before .element .given in
+returns-2 c = let i = c .before .before .before .before .before .before .before .element .given in
     let a = c .before .before .before .before .before .before .before .before .before .before .before .before .before .before .args in
     let n = getD (now (a .words)) (a .first + 1) 0 in
     let ends : extentsMeans (c .before .before .repeat .result) ≡ both (λ m. extentAt (infoLayout m (infoMeans (i .0 .0)) .size * n) (infoLayout m (infoMeans (i .0 .0)) .align)) = rw (c .before .before .repeat .ensures) in
-    let words : (m : Memory) → wordsIn m (c .before .repeat2 .result) ≡ packed (mapOption (copies n) (unpacked (memoryWords m (infoFlat (infoMeans (i .0 .0)))))) = λ m. c .before .repeat2 .ensures m ∙ ap (λ (p : Packed). packed (mapOption (copies n) (unpacked (memoryWords m p)))) (sym (flat-kept (i .0 .0))) in
-    c .fit-row .ensures
-    ∙ fit-same {ns = both (λ m. noInner)} 10 ends (λ j. pairOf (words mem32 j) (words mem64 j)) refl refl
-    ∙ sym (then-is (memberLook (now (a .table)) (a .index .0) (getD (now (a .words)) (a .first) 0)) (infoMeans (i .0 .0)) (fixedRow n) (sym (c .before .before .before .before .before .before .before .before .before .member-at .ensures) ∙ ap foundMeans (i .1)))
+    let words : (m : Memory) → wordsIn m (c .before .repeat2 .result) ≡ packed (mapOption (copies n) (unpacked (memoryWords m (infoFlat (infoMeans (i .0 .0)))))) = λ m. c .before .repeat2 .ensures m ∙ ap (λ (p : Packed). packed (mapOption (copies n) (unpacked (memoryWords m p)))) (sym (flat-kept (i .0 .0))) in (
+      c .fit-row .ensures
+          ∙ fit-same {ns = both (λ m. noInner)} 10 ends (λ j. pairOf (words mem32 j) (words mem64 j)) refl refl
+          ∙ sym (then-is (memberLook (now (a .table)) (a .index .0) (getD (now (a .words)) (a .first) 0)) (infoMeans (i .0 .0)) (fixedRow n) (sym (c .before .before .before .before .before .before .before .before .before .member-at .ensures .0) ∙ ap lookedMeans (i .1))),
+      if-row-holds (c .fit-row .result) (rw (i .1) at (c .before .before .before .before .before .before .before .before .before .member-at .ensures .1)),
+    )
 
 pub fixed-row-spec : {M : Type 1} → statement M
 fixed-row-spec =

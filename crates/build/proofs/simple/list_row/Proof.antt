@@ -1,6 +1,6 @@
--- A bad reference, too deep, or a pair.
+-- A bad reference, or the row of a list of what it names.
 use Rattle.canon.specs.Answer.{andThen}
-use Rattle.build.specs.Kinds.{listRow}
+use Rattle.build.proofs.Wording.{if-row-holds}
 use borrow.Author.Needs.{needs}
 use Rattle.build.proofs.simple.list_row.Statement.{statement}
 use Rattle.build.proofs.simple.list_row.Tie as tie
@@ -20,42 +20,19 @@ enum-told c = search needs
 enum-known-element : tie.Need-enum-known-element
 enum-known-element c = search needs
 
-deeper-requires : tie.Need-deeper-requires
-deeper-requires c κs = search needs
-
-enum-told-2 : tie.Need-enum-told-2
-enum-told-2 c = search needs
-
-enum-known-reach : tie.Need-enum-known-reach
-enum-known-reach c = search needs
-
-pair-row-requires : tie.Need-pair-row-requires
-pair-row-requires c κs = search needs
+list-of-requires : tie.Need-list-of-requires
+list-of-requires c κs = search needs
 
 returns : tie.Need-returns
-unfolding andThen listRow
-returns c = simp (← c .before .before .member-at .ensures, c .enum-told .given .1)
+unfolding andThen
+returns c = (simp (← c .before .before .member-at .ensures .0, c .enum-told .given .1), tt)
 
 returns-2 : tie.Need-returns-2
-unfolding andThen listRow
-returns-2 c =
-    simp (
-      ← c .before .before .before .before .before .before .before .member-at .ensures,
-      c .before .before .before .before .before .element .given .1,
-      ← c .before .before .deeper .ensures,
-      c .enum-told2 .given .1,
-    )
-
-returns-3 : tie.Need-returns-3
-unfolding andThen listRow
-returns-3 c =
-    simp (
-      c .pair-row .ensures,
-      ← c .before .before .before .before .before .before .before .before .before .member-at .ensures,
-      c .before .before .before .before .before .before .before .element .given .1,
-      ← c .before .before .before .before .deeper .ensures,
-      c .before .before .reach .given .1,
-    )
+unfolding andThen
+returns-2 c = (
+  simp (c .list-of .ensures, ← c .before .before .before .before .member-at .ensures .0, c .before .before .element .given .1),
+  if-row-holds (c .list-of .result) (rw (c .before .before .element .given .1) at (c .before .before .before .before .member-at .ensures .1)),
+)
 
 pub list-row-spec : {M : Type 1} → statement M
 list-row-spec =
@@ -66,10 +43,6 @@ list-row-spec =
     member-at-requires
     enum-told
     enum-known-element
-    deeper-requires
-    enum-told-2
-    enum-known-reach
-    pair-row-requires
+    list-of-requires
     returns
-    returns-2
-    returns-3)
+    returns-2)

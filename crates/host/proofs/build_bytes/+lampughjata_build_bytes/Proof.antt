@@ -1,5 +1,5 @@
 -- The proof of the cycle of calls {lampughjata_build_bytes}. The measure is the length of the table, which the call of itself cuts.
-use mathlib.Core.Path.{sym, ap, _∙_}
+use mathlib.Core.Path.{sym, ap, ap₂, _∙_}
 use mathlib.Core.List.{List, _++_}
 use Prim.Native.Nat.{ℕ, _<_}
 use native.Mathlib.Omega.{arith}
@@ -12,8 +12,8 @@ use borrow.Fn.Kinds.{In}
 use borrow.Fn.PlainCycle.{Measures, is, falls, and}
 use Rattle.canon.specs.Answer.{unless}
 use Rattle.host.specs.Bytes.{buildBytes, tableBytes}
-use Rattle.host.specs.Numbers.{answerNumber, itself}
-use Rattle.host.proofs.Builds.{whole-build, first-answer, first-table}
+use Rattle.host.specs.Numbers.{buildNumber}
+use Rattle.host.proofs.Builds.{whole-build, first-answer, first-reads, first-table}
 use Rattle.host.proofs.build_bytes.build_long.Reads as build-long
 use Rattle.host.proofs.build_bytes.build_short.Reads as build-short
 use Rattle.host.proofs.build_bytes.lampughjata_build_bytes.Reads as build-bytes
@@ -86,7 +86,7 @@ module _ (t : ℕ) where
       let w = now (start .args .words) in
       let u = now (start .args .table) in
       let call = c .before .before .lampughjata-build-bytes in (
-        call .ensures .0 ∙ ap (answerNumber itself) (first-answer w u),
+        call .ensures .0 ∙ ap₂ buildNumber (first-answer w u) (first-reads w u),
         ap (λ (l : List ℕ). l ++ drop 65536 u) (call .ensures .1) ∙ first-table w u (λ i. c .before .before .before .before .before .before .before .slice-known .given i .fits),
       )
 

@@ -8,9 +8,10 @@ use lib.ListN.{length}
 use lib.Seq.{length-take-le, take-all}
 use borrow.Author.Needs.{needs}
 use Rattle.canon.specs.Description.{buildAnswer, tableAfter}
+use Rattle.canon.specs.Cost.{buildReads}
 use Rattle.words.specs.Words.{putWords}
 use Rattle.words.proofs.Laws.{length-whole}
-use Rattle.host.specs.Numbers.{answerNumber, itself}
+use Rattle.host.specs.Numbers.{buildNumber}
 use Rattle.host.proofs.Decoded.{front-all}
 use Rattle.host.proofs.build_bytes.build_long.Statement.{statement}
 use Rattle.host.proofs.build_bytes.build_long.Tie as tie
@@ -31,7 +32,9 @@ array-share-prefix-ws : tie.Need-array-share-prefix-ws
 array-share-prefix-ws c = search needs
 
 slice-aggregate-build-into : tie.Need-slice-aggregate-build-into
-slice-aggregate-build-into c = let w = c .before .before .before .before .before .before .words-of in sym (length-take-le (w .result) (w .last .1 .0) (search needs))
+slice-aggregate-build-into c =
+    let w = c .before .before .before .before .before .before .words-of in
+    sym (length-take-le (w .result) (w .last .1 .0) (search needs))
 
 array-borrow-prefix-ts : tie.Need-array-borrow-prefix-ts
 array-borrow-prefix-ts c = search needs
@@ -54,7 +57,7 @@ returns c =
     let all = front-all _ _ 16384 (search needs) (search needs) (words .ensures .0) (words .ensures .1) in
     let rows = front-all _ _ 16384 (search needs) (search needs) (table .ensures .0) (table .ensures .1) in
     let after = into .last .1 .0 in (
-      into .ensures .0 ∙ ap₂ (λ (ws u : List ℕ). answerNumber itself (buildAnswer ws u)) all rows,
+      into .ensures .0 ∙ ap₂ (λ (ws u : List ℕ). buildNumber (buildAnswer ws u) (buildReads ws u)) all rows,
       into .ensures .1 .1
           ∙ ap (λ (v : List ℕ). putWords 0 v t)
           (take-all (length t / 4) after (omega (arith, into .ensures .1 .0 .1, ap length rows, length-whole t))

@@ -7,8 +7,8 @@ use borrow.Author.Needs.{needs}
 use Rattle.build.specs.Means.{accepted}
 use Rattle.words.specs.Words.{wholeWords, putWords}
 use Rattle.host.specs.Local.{withRows}
-use Rattle.host.specs.Numbers.{answerNumber, itself}
-use Rattle.host.proofs.Builds.{local-answer, local-rows}
+use Rattle.host.specs.Numbers.{buildNumber}
+use Rattle.host.proofs.Builds.{local-answer, local-reads, local-rows}
 use Rattle.host.proofs.build_bytes.build_rows.Statement.{statement}
 use Rattle.host.proofs.build_bytes.build_rows.Tie as tie
 
@@ -38,7 +38,8 @@ returns c =
     let b = now (start .args .bytes) in
     let local = c .before .before .before .before .before .before .before .before .before .build in
     let rows = c .before .before .before .before .before .accepted in (
-      c .built-number .ensures ∙ ap (answerNumber itself) (local .ensures .0 ∙ local-answer ws t b (start .pre .0) (start .pre .1)),
+      c .built-number .ensures
+          ∙ ap₂ buildNumber (local .ensures .0 ∙ local-answer ws t b (start .pre .0) (start .pre .1)) (local .ensures .2 ∙ local-reads ws t b (start .pre .0) (start .pre .1)),
       c .before .before .before .give-rows .ensures
           ∙ ap (λ (v : List ℕ). putWords 0 v b)
           (ap₂ (λ (u : List ℕ) (n : ℕ). withRows u n (wholeWords b)) (local .ensures .1) (rows .ensures ∙ ap accepted (local .ensures .0))

@@ -8,8 +8,9 @@ use lib.ListN.{replicate, length-take}
 use lib.Seq.{length-take-le}
 use borrow.Author.Needs.{needs}
 use Rattle.canon.specs.Description.{buildAnswer, tableAfter}
+use Rattle.canon.specs.Cost.{buildReads}
 use Rattle.words.specs.Words.{wholeWords, putWords}
-use Rattle.host.specs.Numbers.{answerNumber, itself}
+use Rattle.host.specs.Numbers.{buildNumber}
 use Rattle.host.proofs.Builds.{local-room}
 use Rattle.host.proofs.Decoded.{front-all}
 use Rattle.host.proofs.build_bytes.build_short.Statement.{statement}
@@ -34,7 +35,9 @@ array-borrow-prefix-ts : tie.Need-array-borrow-prefix-ts
 array-borrow-prefix-ts c = search needs
 
 slice-aggregate-build-rows-2 : tie.Need-slice-aggregate-build-rows-2
-slice-aggregate-build-rows-2 c = let r = c .before .before .local-words in sym (length-take-le (r .result) (replicate 512 0) (omega (arith, r .ensures)))
+slice-aggregate-build-rows-2 c =
+    let r = c .before .before .local-words in
+    sym (length-take-le (r .result) (replicate 512 0) (omega (arith, r .ensures)))
 
 build-rows-requires : tie.Need-build-rows-requires
 build-rows-requires c κs =
@@ -51,7 +54,7 @@ returns c =
     let words = c .before .before .before .before .before .before .before .before .before .before .words-of in
     let rows = c .before .before .before .build-rows in
     let all = front-all _ _ 64 (search needs) (search needs) (words .ensures .0) (words .ensures .1) in (
-      rows .ensures .0 ∙ ap (λ (ws : List ℕ). answerNumber itself (buildAnswer ws (wholeWords t))) all,
+      rows .ensures .0 ∙ ap (λ (ws : List ℕ). buildNumber (buildAnswer ws (wholeWords t)) (buildReads ws (wholeWords t))) all,
       rows .ensures .1 ∙ ap (λ (ws : List ℕ). putWords 0 (tableAfter ws (wholeWords t)) t) all,
     )
 

@@ -8,6 +8,15 @@ enum-known-answer c = search needs
 wide-requires : tie.Need-wide-requires
 wide-requires c κs = search needs
 
+mul-result : tie.Need-mul-result
+mul-result c = search needs
+
+wide-requires-2 : tie.Need-wide-requires-2
+wide-requires-2 c κs = search needs
+
+add-result : tie.Need-add-result
+add-result c = search needs
+
 enum-known-answer-2 : tie.Need-enum-known-answer-2
 enum-known-answer-2 c = search needs
 
@@ -15,7 +24,7 @@ refused-requires : tie.Need-refused-requires
 refused-requires c κs = search needs
 
 returns : tie.Need-returns
-returns c = search needs
+returns c = simp (c .before .before .before .answer .given .1, c .before .wide .ensures, c .wide2 .ensures)
 
 returns-2 : tie.Need-returns-2
 returns-2 c = simp (c .before .before .answer2 .given .1, c .refused .ensures)
@@ -26,6 +35,9 @@ built-number-spec =
     (tie.spec
     enum-known-answer
     wide-requires
+    mul-result
+    wide-requires-2
+    add-result
     enum-known-answer-2
     refused-requires
     returns

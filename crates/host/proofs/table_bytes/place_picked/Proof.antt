@@ -1,5 +1,5 @@
 -- The picked rows answer as the lent table does, and the first words of the buffer have room for every offset.
-use mathlib.Core.Path.{sym, ap, _∙_}
+use mathlib.Core.Path.{sym, ap, ap₂, _∙_}
 use Prim.Native.Nat.{_≤_}
 use native.Mathlib.Omega.{arith}
 use denote.Ref.{now}
@@ -9,8 +9,8 @@ use Rattle.canon.specs.Answer.{then}
 use Rattle.canon.specs.Question.{placementAnswer, bufferAfter, offsetsAfter}
 use Rattle.words.specs.Words.{wholeWords}
 use Rattle.words.proofs.Laws.{length-whole, put-same}
-use Rattle.host.specs.Numbers.{memoryAt, answerNumber, placementNumber}
-use Rattle.host.proofs.ShortLists.{room-16, placing-missing, placement-alike, offsets-alike}
+use Rattle.host.specs.Numbers.{memoryAt, placementNumber}
+use Rattle.host.proofs.ShortLists.{room-16, placing-missing, placement-alike, reads-alike, offsets-alike}
 use Rattle.host.proofs.Decoded.{front, front-put}
 use borrow.Author.Needs.{needs}
 use Rattle.host.proofs.table_bytes.place_picked.Statement.{statement}
@@ -37,7 +37,11 @@ slice-aggregate-pick-rows-2 : tie.Need-slice-aggregate-pick-rows-2
 slice-aggregate-pick-rows-2 c = search needs
 
 pick-rows-requires : tie.Need-pick-rows-requires
-pick-rows-requires c κs = (sym (c .before .before .before .no-rows .ensures) ∙ c .before .before .if1 .left, rw room-16 (omega (arith, c .before .before .before .before .before .before .before .pre)), omega (arith, c .before .before .before .before .before .before .before .pre))
+pick-rows-requires c κs = (
+  sym (c .before .before .before .no-rows .ensures) ∙ c .before .before .if1 .left,
+  rw room-16 (omega (arith, c .before .before .before .before .before .before .before .pre)),
+  omega (arith, c .before .before .before .before .before .before .before .pre),
+)
 
 slice-aggregate-words-of : tie.Need-slice-aggregate-words-of
 slice-aggregate-words-of c = search needs
@@ -52,13 +56,17 @@ array-share-prefix-rs : tie.Need-array-share-prefix-rs
 array-share-prefix-rs c = search needs
 
 slice-aggregate-place-into-2 : tie.Need-slice-aggregate-place-into-2
-slice-aggregate-place-into-2 c = let w = c .before .before .before .before .before .before .before .before .pick-rows in w .ensures .0 .0 ∙ sym (length-whole _) ∙ sym (w .ensures .1 .0 .count)
+slice-aggregate-place-into-2 c =
+    let w = c .before .before .before .before .before .before .before .before .pick-rows in
+    w .ensures .0 .0 ∙ sym (length-whole _) ∙ sym (w .ensures .1 .0 .count)
 
 array-borrow-prefix-os : tie.Need-array-borrow-prefix-os
 array-borrow-prefix-os c = search needs
 
 slice-aggregate-place-into-3 : tie.Need-slice-aggregate-place-into-3
-slice-aggregate-place-into-3 c = let w = c .before .before .before .before .words-of in sym (length-take-le (w .result) (w .last .1 .0) (search needs))
+slice-aggregate-place-into-3 c =
+    let w = c .before .before .before .before .words-of in
+    sym (length-take-le (w .result) (w .last .1 .0) (search needs))
 
 place-into-requires : tie.Need-place-into-requires
 place-into-requires c κs = search needs
@@ -78,7 +86,7 @@ returns-2 c =
     let into = c .before .before .before .place-into in
     let out = front _ _ 16 (search needs) (buffer .ensures .0) (buffer .ensures .1) in
     let few : length ws ≤ 16 = omega (arith, p, length-whole (now (a .references))) in (
-      into .ensures .0 ∙ rw (out, length-take 16 (wholeWords (now (a .offsets)))) (ap (answerNumber placementNumber) (placement-alike _ t 16 (a .rows) (rw (picks .1 .1 .size) room-16) there _ _ ws (picks .1 .0) few (memoryAt (a .memory)) (length (wholeWords (now (a .offsets)))))),
+      into .ensures .0 ∙ rw (out, length-take 16 (wholeWords (now (a .offsets)))) (ap₂ placementNumber (placement-alike _ t 16 (a .rows) (rw (picks .1 .1 .size) room-16) there _ _ ws (picks .1 .0) few (memoryAt (a .memory)) (length (wholeWords (now (a .offsets))))) (reads-alike _ t 16 (a .rows) (rw (picks .1 .1 .size) room-16) there _ _ ws (picks .1 .0) few (memoryAt (a .memory)) (length (wholeWords (now (a .offsets)))))),
       into .ensures .1 .1
           ∙ front-put 16 _ (now (a .offsets)) (λ i. c .before .before .before .before .before .before .before .before .before .before .before .before .before .before .before .before .before .before .before .slice-known .given i .fits) (into .ensures .1 .0 .1 ∙ ap length out)
           (offsets-alike _ t 16 (a .rows) (rw (picks .1 .1 .size) room-16) there _ _ ws (picks .1 .0) few (memoryAt (a .memory)) (wholeWords (now (a .offsets))) _ (into .ensures .1 .0 .0 ∙ rw out)),

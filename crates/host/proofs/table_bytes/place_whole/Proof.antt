@@ -1,11 +1,11 @@
 -- The decoded fronts are the first words of the bytes; the rest changes no answer and stays.
-use mathlib.Core.Path.{sym, ap, _∙_}
+use mathlib.Core.Path.{sym, ap, ap₂, _∙_}
 use denote.Ref.{now}
 use lib.ListN.{length, length-take}
 use lib.Seq.{length-take-le}
-use Rattle.canon.proofs.Capped.{placement-first}
+use Rattle.canon.proofs.Capped.{placement-first, reads-first}
 use Rattle.words.specs.Words.{wholeWords}
-use Rattle.host.specs.Numbers.{memoryAt, answerNumber, placementNumber}
+use Rattle.host.specs.Numbers.{memoryAt, placementNumber}
 use Rattle.host.proofs.Decoded.{front, offsets-put}
 use borrow.Author.Needs.{needs}
 use Rattle.host.proofs.table_bytes.place_whole.Statement.{statement}
@@ -33,19 +33,25 @@ array-share-prefix-ts : tie.Need-array-share-prefix-ts
 array-share-prefix-ts c = search needs
 
 slice-aggregate-place-into : tie.Need-slice-aggregate-place-into
-slice-aggregate-place-into c = let w = c .before .before .before .before .before .before .before .before .before .words-of in sym (length-take-le (w .result) (w .last .1 .0) (search needs))
+slice-aggregate-place-into c =
+    let w = c .before .before .before .before .before .before .before .before .before .words-of in
+    sym (length-take-le (w .result) (w .last .1 .0) (search needs))
 
 array-share-prefix-rs : tie.Need-array-share-prefix-rs
 array-share-prefix-rs c = search needs
 
 slice-aggregate-place-into-2 : tie.Need-slice-aggregate-place-into-2
-slice-aggregate-place-into-2 c = let w = c .before .before .before .before .before .before .before .words-of2 in sym (length-take-le (w .result) (w .last .1 .0) (search needs))
+slice-aggregate-place-into-2 c =
+    let w = c .before .before .before .before .before .before .before .words-of2 in
+    sym (length-take-le (w .result) (w .last .1 .0) (search needs))
 
 array-borrow-prefix-os : tie.Need-array-borrow-prefix-os
 array-borrow-prefix-os c = search needs
 
 slice-aggregate-place-into-3 : tie.Need-slice-aggregate-place-into-3
-slice-aggregate-place-into-3 c = let w = c .before .before .before .before .words-of3 in sym (length-take-le (w .result) (w .last .1 .0) (search needs))
+slice-aggregate-place-into-3 c =
+    let w = c .before .before .before .before .words-of3 in
+    sym (length-take-le (w .result) (w .last .1 .0) (search needs))
 
 place-into-requires : tie.Need-place-into-requires
 place-into-requires c κs = search needs
@@ -65,7 +71,7 @@ returns c =
     let rows = front _ _ 16384 (search needs) (table .ensures .0) (table .ensures .1) in
     let few = front _ _ 16385 (search needs) (list .ensures .0) (list .ensures .1) in
     let out = front _ _ 16384 (search needs) (buffer .ensures .0) (buffer .ensures .1) in (
-      into .ensures .0 ∙ rw (rows, few, out, length-take 16384 (wholeWords (now (a .offsets)))) (ap (answerNumber placementNumber) (placement-first (memoryAt (a .memory)) t (a .rows) ws (length (wholeWords (now (a .offsets)))))),
+      into .ensures .0 ∙ rw (rows, few, out, length-take 16384 (wholeWords (now (a .offsets)))) (ap₂ placementNumber (placement-first (memoryAt (a .memory)) t (a .rows) ws (length (wholeWords (now (a .offsets))))) (reads-first (memoryAt (a .memory)) t (a .rows) ws (length (wholeWords (now (a .offsets)))))),
       into .ensures .1 .1 ∙ offsets-put _ (now (a .offsets)) (λ i. c .before .before .before .before .before .before .before .before .before .before .before .before .before .before .before .before .before .before .slice-known .given i .fits) (into .ensures .1 .0 .1 ∙ ap length out) (memoryAt (a .memory)) t (a .rows) ws (into .ensures .1 .0 .0 ∙ rw (rows, few, out)),
     )
 

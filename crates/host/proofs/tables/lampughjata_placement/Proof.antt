@@ -1,5 +1,7 @@
-use Rattle.host.specs.Numbers.{answerNumber, placementNumber}
-use mathlib.Core.Path.{ap, _∙_}
+use mathlib.Core.Path.{ap₂, _∙_}
+use Rattle.canon.proofs.Costs.{placement-few}
+use Rattle.host.specs.Numbers.{placementNumber}
+use Rattle.host.proofs.Short.{placement-short}
 use borrow.Author.Needs.{needs}
 use Rattle.host.proofs.tables.lampughjata_placement.Statement.{statement}
 use Rattle.host.proofs.tables.lampughjata_placement.Tie as tie
@@ -11,13 +13,17 @@ placement-requires : tie.Need-placement-requires
 placement-requires c κs = search needs
 
 placement-number-requires : tie.Need-placement-number-requires
-placement-number-requires c κs = search needs
+placement-number-requires c κs =
+    let placed = c .before .before .placement .ensures in
+    (rw (placed .0) (placement-short _ _ _ _ _), rw (placed .1 .1) (placement-few _ _ _ _ _))
 
 same-length : tie.Need-same-length
 same-length c = search needs
 
 returns : tie.Need-returns
-returns c = (c .placement-number .ensures ∙ ap (answerNumber placementNumber) (rw (c .before .before .before .before .before .memory-at .ensures) at (c .before .before .before .placement .ensures .0)), rw (c .before .before .before .before .before .memory-at .ensures) at (c .before .before .before .placement .ensures .1))
+returns c =
+    let placed = rw (c .before .before .before .before .before .memory-at .ensures) at (c .before .before .before .placement .ensures) in
+    (c .placement-number .ensures ∙ ap₂ placementNumber (placed .0) (placed .1 .1), placed .1 .0)
 
 pub lampughjata-placement-spec : {M : Type 1} → statement M
 lampughjata-placement-spec =

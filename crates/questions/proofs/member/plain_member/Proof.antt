@@ -1,4 +1,5 @@
 -- What a plain reference is, in one memory.
+use mathlib.Core.Path.{refl}
 use Rattle.canon.specs.Answer.{andThen}
 use borrow.Author.Needs.{needs}
 use Rattle.questions.proofs.member.plain_member.Statement.{statement}
@@ -18,11 +19,14 @@ enum-told c = search needs
 
 returns : tie.Need-returns
 unfolding andThen
-returns c = simp (← c .before .before .before .before .before .plain-info .ensures, c .before .before .before .info .given .1, c .in-memory .ensures)
+returns c = (
+  simp (← c .before .before .before .before .before .plain-info .ensures, c .before .before .before .info .given .1, c .in-memory .ensures),
+  refl,
+)
 
 returns-2 : tie.Need-returns-2
 unfolding andThen
-returns-2 c = simp (← c .before .before .plain-info .ensures, c .enum-told .given .1)
+returns-2 c = (simp (← c .before .before .plain-info .ensures, c .enum-told .given .1), tt)
 
 pub plain-member-spec : {M : Type 1} → statement M
 plain-member-spec =

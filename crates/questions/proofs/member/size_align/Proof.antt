@@ -26,11 +26,13 @@ enum-known-why c = search needs
 
 returns-2 : tie.Need-returns-2
 unfolding read unless atPosition
-returns-2 c = simp (size-align-is, ← c .before .before .before .before .before .before .no-table .ensures, c .before .before .before .before .before .if1 .left, lt-leb _ _ (c .before .before .before .before .if2 .taken), ← c .before .before .before .plain-member .ensures, c .before .layout .given .1)
+returns-2 c =
+    simp (size-align-is, ← c .before .before .before .before .before .before .no-table .ensures, c .before .before .before .before .before .if1 .left, lt-leb _ _ (c .before .before .before .before .if2 .taken), ← c .before .before .before .plain-member .ensures .0, c .before .layout .given .1)
 
 returns-3 : tie.Need-returns-3
 unfolding read unless atPosition
-returns-3 c = simp (size-align-is, ← c .before .before .before .before .before .before .no-table .ensures, c .before .before .before .before .before .if1 .left, lt-leb _ _ (c .before .before .before .before .if2 .taken), ← c .before .before .before .plain-member .ensures, c .before .why .given .1)
+returns-3 c =
+    simp (size-align-is, ← c .before .before .before .before .before .before .no-table .ensures, c .before .before .before .before .before .if1 .left, lt-leb _ _ (c .before .before .before .before .if2 .taken), ← c .before .before .before .plain-member .ensures .0, c .before .why .given .1)
 
 row-named-requires : tie.Need-row-named-requires
 row-named-requires c κs = (sym (c .before .before .no-table .ensures) ∙ c .before .if1 .left, c .if2 .left)
@@ -46,11 +48,13 @@ enum-known-why-2 c = search needs
 
 returns-4 : tie.Need-returns-4
 unfolding unless atPosition andThen
-returns-4 c = simp (size-align-is, ← c .before .before .before .before .before .before .before .no-table .ensures, c .before .before .before .before .before .before .if1 .left, ← c .before .before .before .before .row-named .ensures, c .before .before .index .given .1, c .row-layout .ensures)
+returns-4 c =
+    simp (size-align-is, ← c .before .before .before .before .before .before .before .no-table .ensures, c .before .before .before .before .before .before .if1 .left, ← c .before .before .before .before .row-named .ensures, c .before .before .index .given .1, c .row-layout .ensures)
 
 returns-5 : tie.Need-returns-5
 unfolding unless atPosition andThen
-returns-5 c = simp (size-align-is, ← c .before .before .before .before .before .before .no-table .ensures, c .before .before .before .before .before .if1 .left, ← c .before .before .before .row-named .ensures, c .before .why2 .given .1)
+returns-5 c =
+    simp (size-align-is, ← c .before .before .before .before .before .before .no-table .ensures, c .before .before .before .before .before .if1 .left, ← c .before .before .before .row-named .ensures, c .before .why2 .given .1)
 
 pub size-align-spec : {M : Type 1} → statement M
 size-align-spec =

@@ -1,11 +1,10 @@
 -- What the first pass remembers the second writes (`written`); where it refuses nothing is written (`untouched`).
-use mathlib.Core.Path.{refl, ap, sym, _∙_}
+use mathlib.Core.Path.{refl, _∙_}
 use denote.Ref.{now}
 use lib.ListN.{length, length-map}
 use Rattle.canon.specs.Layout.{starts}
 use Rattle.canon.proofs.Questions.{starts-length}
 use Rattle.types.specs.Means.{memoryOf}
-use Rattle.questions.specs.Means.{layoutAnswerMeans}
 use Rattle.questions.specs.Steps.{memberLayout, known}
 use Rattle.questions.proofs.Members.{answered, untouched, written}
 use Rattle.questions.proofs.Memos.{remembers-none}
@@ -17,21 +16,22 @@ slice-aggregate-judge : tie.Need-slice-aggregate-judge
 slice-aggregate-judge c = search needs
 
 judge-requires : tie.Need-judge-requires
-judge-requires c κs = let s = c .before .before .before .before in
-    (s .pre .0, s .pre .1, refl, remembers-none (memberLayout (memoryOf (s .args .memory)) (now (s .args .table)) (s .args .n)) 1088)
+judge-requires c κs =
+    let a = c .before .before .before .before .args in
+    let p = c .before .before .before .before .pre in
+    (p .0, p .1, refl, remembers-none (memberLayout (memoryOf (a .memory)) (now (a .table)) (a .n)) 1088)
 
-enum-known-layout : tie.Need-enum-known-layout
-enum-known-layout c = search needs
+enum-known-whole : tie.Need-enum-known-whole
+enum-known-whole c = search needs
 
 slice-aggregate-write : tie.Need-slice-aggregate-write
 slice-aggregate-write c = search needs
 
 write-requires : tie.Need-write-requires
-write-requires c κs = let s = c .before .before .before .before .before .before .before .before .before .before .before in
-    let f = c .before .before .before .before .before .before .judge in
-    let p = answered _ _ (sym (ap layoutAnswerMeans (c .before .before .before .layout .given .1)) ∙ f .ensures .0) in
+write-requires c κs = let f = c .before .before .before .before .before .before .judge in
+    let p = answered _ _ (rw (c .before .before .before .whole .given .1) at (f .ensures .0) .answer) in
     let r = f .ensures .1 (p .0) (p .1) in
-    (s .pre .1, search needs, search needs, record { there = r .there; aligned = r .aligned; fits = r .fits; offsets-are = refl })
+    (c .before .before .before .before .before .before .before .before .before .before .before .pre .1, search needs, search needs, record { there = r .there; aligned = r .aligned; fits = r .fits; offsets-are = refl })
 
 enum-known-why : tie.Need-enum-known-why
 enum-known-why c = search needs
@@ -42,19 +42,18 @@ same-length c = search needs
 returns : tie.Need-returns
 returns c = let a = c .before .before .before .before .before .before .before .before .before .before .before .before .before .before .args in
     let f = c .before .before .before .before .before .before .before .before .before .judge in
-    let e = sym (ap layoutAnswerMeans (c .before .before .before .before .before .before .layout .given .1)) ∙ f .ensures .0 in
-    let p = answered _ _ e in
+    let answers = rw (c .before .before .before .before .before .before .whole .given .1) at (f .ensures .0) in
+    let p = answered _ _ (answers .answer) in
     let fs = known (f .last .1 .1 .1 .1 .0) (now (a .references)) in
     record {
-      answer = e;
+      answers = answers;
       buffer = written _ (p .0) (starts 0 fs) _ _ (length (now (a .references))) (p .1) (f .ensures .1 (p .0) (p .1) .offsets-are)
           (starts-length 0 fs ∙ length-map (now (a .references)) _) (c .before .before .write .ensures);
     }
 
 returns-2 : tie.Need-returns-2
-returns-2 c = let f = c .before .before .before .before .judge in
-    let e = sym (ap layoutAnswerMeans (c .before .why .given .1)) ∙ f .ensures .0 in
-    record { answer = e; buffer = untouched _ _ _ _ e }
+returns-2 c = let answers = rw (c .before .why .given .1) at (c .before .before .before .before .judge .ensures .0) in
+    record { answers = answers; buffer = untouched _ _ _ _ (answers .answer) }
 
 pub place-long-spec : {M : Type 1} → statement M
 place-long-spec =
@@ -62,7 +61,7 @@ place-long-spec =
     (tie.spec
     slice-aggregate-judge
     judge-requires
-    enum-known-layout
+    enum-known-whole
     slice-aggregate-write
     write-requires
     enum-known-why

@@ -3,6 +3,7 @@ use mathlib.Core.Path.{sym, _∙_}
 use borrow.Author.Tests.{ltb-false, lt-ltb, le-ltb}
 use Rattle.canon.specs.Answer.{then, unless}
 use Rattle.canon.specs.Question.{ask, placing, placementAnswer, bufferAfter, offsetsAfter}
+use Rattle.canon.specs.Cost.{placementReads}
 use borrow.Author.Needs.{needs}
 use Rattle.questions.proofs.placing.placement.Statement.{statement}
 use Rattle.questions.proofs.placing.placement.Tie as tie
@@ -11,24 +12,26 @@ too-many-requires : tie.Need-too-many-requires
 too-many-requires c κs = search needs
 
 returns : tie.Need-returns
-unfolding placementAnswer offsetsAfter placing ask unless then bufferAfter
-returns c = let e = (sym (c .before .too-many .ensures) ∙ c .if1 .taken) in (rw e, rw e)
+unfolding placementReads placementAnswer offsetsAfter placing ask unless then bufferAfter
+returns c = let e = sym (c .before .too-many .ensures) ∙ c .if1 .taken in (rw e, (rw e, rw e))
 
 no-table-requires : tie.Need-no-table-requires
 no-table-requires c κs = search needs
 
 returns-2 : tie.Need-returns-2
-unfolding placementAnswer offsetsAfter placing ask unless then bufferAfter
-returns-2 c = let e = sym (c .before .before .before .too-many .ensures) ∙ c .before .before .if1 .left in
+unfolding placementReads placementAnswer offsetsAfter placing ask unless then bufferAfter
+returns-2 c =
+    let e = sym (c .before .before .before .too-many .ensures) ∙ c .before .before .if1 .left in
     let f = sym (c .before .no-table .ensures) ∙ c .if2 .taken in
-    (rw (e, f), rw (e, f))
+    (rw (e, f), (rw (e, f), rw (e, f)))
 
 returns-3 : tie.Need-returns-3
-unfolding placementAnswer offsetsAfter placing ask unless then bufferAfter
-returns-3 c = let e = sym (c .before .before .before .before .too-many .ensures) ∙ c .before .before .before .if1 .left in
+unfolding placementReads placementAnswer offsetsAfter placing ask unless then bufferAfter
+returns-3 c =
+    let e = sym (c .before .before .before .before .too-many .ensures) ∙ c .before .before .before .if1 .left in
     let f = sym (c .before .before .no-table .ensures) ∙ c .before .if2 .left in
     let g = lt-ltb _ _ (c .if3 .taken) in
-    (rw (e, f, g), rw (e, f, g))
+    (rw (e, f, g), (rw (e, f, g), rw (e, f, g)))
 
 place-all-requires : tie.Need-place-all-requires
 place-all-requires c κs = (
@@ -41,11 +44,13 @@ same-length : tie.Need-same-length
 same-length c = search needs
 
 returns-4 : tie.Need-returns-4
-unfolding placementAnswer offsetsAfter placing ask unless
-returns-4 c = let e = sym (c .before .before .before .before .before .before .before .before .too-many .ensures) ∙ c .before .before .before .before .before .before .before .if1 .left in
+unfolding placementReads placementAnswer offsetsAfter placing ask unless
+returns-4 c =
+    let e = sym (c .before .before .before .before .before .before .before .before .too-many .ensures) ∙ c .before .before .before .before .before .before .before .if1 .left in
     let f = sym (c .before .before .before .before .before .before .no-table .ensures) ∙ c .before .before .before .before .before .if2 .left in
     let g = le-ltb _ _ (c .before .before .before .before .if3 .left) in
-    (rw (e, f, g) (c .before .before .place-all .ensures .answer), rw (e, f, g) (c .before .before .place-all .ensures .buffer))
+    let all = c .before .before .place-all .ensures in
+    (rw (e, f, g) (all .answers .answer), (rw (e, f, g) (all .buffer), rw (e, f, g) (all .answers .reads)))
 
 pub placement-spec : {M : Type 1} → statement M
 placement-spec =

@@ -22,20 +22,20 @@ add-requires c κs = search needs
 
 returns : tie.Need-returns
 unfolding andThen addIfPayload
-returns c = simp
-    (← c .before .before .case-at .ensures, c .enum-told .given .1)
+returns c = (simp (← c .before .before .case-at .ensures .0, c .enum-told .given .1), tt)
 
 returns-2 : tie.Need-returns-2
 unfolding andThen addIfPayload
-returns-2 c = simp
-    (← c .before .before .case-at .ensures, c .enum-told2 .given .1)
+returns-2 c = (
+  simp (← c .before .before .case-at .ensures .0, c .enum-told2 .given .1),
+  rw (c .enum-told2 .given .1) at (c .before .before .case-at .ensures .1),
+)
 
 returns-3 : tie.Need-returns-3
 unfolding andThen addIfPayload
-returns-3 c = simp (
-  c .add .ensures,
-  ← c .before .before .before .before .case-at .ensures,
-  c .before .before .payload .given .1,
+returns-3 c = (
+  simp (c .add .ensures, ← c .before .before .before .before .case-at .ensures .0, c .before .before .payload .given .1),
+  rw (c .before .before .payload .given .1) at (c .before .before .before .before .case-at .ensures .1),
 )
 
 pub add-case-spec : {M : Type 1} → statement M

@@ -1,8 +1,8 @@
 -- The last end, then the size.
-use Rattle.canon.specs.Layout.{largestNumber}
-use mathlib.Core.Path.{sym, _∙_}
+use mathlib.Core.Path.{refl, sym, _∙_}
 use native.Mathlib.Omega.{arith}
 use borrow.Author.Tests.{ltb-false}
+use Rattle.canon.specs.Layout.{largestNumber}
 use Rattle.questions.specs.Steps.{finished}
 use borrow.Author.Needs.{needs}
 use Rattle.questions.proofs.placed.Placed.finish.Statement.{statement}
@@ -13,7 +13,7 @@ is-large-requires c κs = search needs
 
 returns : tie.Need-returns
 unfolding finished
-returns c = rw (← c .before .is-large .ensures, c .if1 .taken)
+returns c = rw (← c .before .is-large .ensures, c .if1 .taken) (refl, refl)
 
 close-requires : tie.Need-close-requires
 close-requires c κs = search needs
@@ -23,14 +23,15 @@ is-large-requires-2 c κs = search needs
 
 returns-2 : tie.Need-returns-2
 unfolding finished
-returns-2 c = rw (← c .before .before .before .before .is-large .ensures, c .before .before .before .if1 .left, ← c .before .before .close .ensures, ← c .before .is-large2 .ensures, c .if2 .taken)
+returns-2 c = rw (← c .before .before .before .before .is-large .ensures, c .before .before .before .if1 .left, ← c .before .before .close .ensures, ← c .before .is-large2 .ensures, c .if2 .taken) (refl, refl)
 
-cast-t10 : tie.Need-cast-t10
-cast-t10 c = record { fits = omega (arith, ltb-false largestNumber (c .before .before .before .close .result .end) (sym (c .before .before .is-large2 .ensures) ∙ c .before .if2 .left)) }
+cast-t12 : tie.Need-cast-t12
+cast-t12 c =
+    record { fits = omega (arith, ltb-false largestNumber (c .before .before .before .close .result .end) (sym (c .before .before .is-large2 .ensures) ∙ c .before .if2 .left)) }
 
 returns-3 : tie.Need-returns-3
 unfolding finished
-returns-3 c = rw (← c .before .before .before .before .before .is-large .ensures, c .before .before .before .before .if1 .left, ← c .before .before .before .close .ensures, ← c .before .before .is-large2 .ensures, c .before .if2 .left)
+returns-3 c = rw (← c .before .before .before .before .before .is-large .ensures, c .before .before .before .before .if1 .left, ← c .before .before .before .close .ensures, ← c .before .before .is-large2 .ensures, c .before .if2 .left) (refl, refl)
 
 pub finish-spec : {M : Type 1} → statement M
 finish-spec =
@@ -41,5 +42,5 @@ finish-spec =
     close-requires
     is-large-requires-2
     returns-2
-    cast-t10
+    cast-t12
     returns-3)
