@@ -34,11 +34,12 @@ static void print_built(uint64_t built)
     printf("build: %u definitions; rows read back: %u\n", (unsigned)built, (unsigned)(built >> 32));
 }
 
-/* Prints what a placement answers: the size in bits 0 to 31, the alignment in bits 32 to 35. It answers the
- * rows read back as well, which are none for members that are no definitions. */
+/* Prints what a placement answers: the size in bits 0 to 31, the alignment in bits 32 to 35, the rows read back
+ * in bits 40 to 55, which are none here, since no member is a definition. */
 static void print_placed(uint64_t placed)
 {
-    printf("size %u, alignment %u\n", (unsigned)placed, (unsigned)(placed >> 32) & 0xf);
+    printf("size %u, alignment %u; rows read back: %u\n", (unsigned)placed, (unsigned)(placed >> 32) & 0xf,
+           (unsigned)(placed >> 40));
 }
 
 /* Prints a list of core types: two bits each, the first lowest, and how many in bits 40 to 47. */

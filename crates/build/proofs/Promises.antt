@@ -3,29 +3,27 @@
 use mathlib.Core.Path.{_≡_, refl, sym, ap, _∙_}
 use mathlib.Core.Logic.{_⊎_, inr, _↔_}
 use mathlib.Core.Bool.{true}
-use mathlib.Core.List.{List, _∷_}
+use mathlib.Core.List.{List, _∷_, _++_}
 use mathlib.Core.Option.{some}
-use Prim.Native.Nat.{ℕ, suc, _≤_, _<_}
-use native.Mathlib.Omega.{arith}
+use Prim.Native.Nat.{ℕ, suc, _+_, _≤_, _<_}
 use lib.ListN.{length, take, getElem?}
 use contract.Lifetimes.{Lfts}
 use denote.Ref.{RefT, now, at-last}
-use Rattle.canon.specs.Answer.{is, Answer, ok, refused, tooLarge, tooDeep}
-use Rattle.canon.specs.Cost.{isRow, referencesBehind, rowsRead, reported, buildReads}
+use Rattle.canon.specs.Answer.{Answer, ok, refused, tooLarge, tooDeep}
+use Rattle.canon.specs.Cost.{rowsRead, reported, buildReads}
 use Rattle.canon.specs.Types.{Ty, Members, Kind}
 use Rattle.canon.specs.Layout.{Memory, mem32, mem64, within, starts, members}
-use Rattle.canon.specs.Placement.{Every, NoPlacement}
+use Rattle.canon.specs.Placement.{NoPlacement}
 use Rattle.canon.specs.Row.{word, rowOf, rowAbi}
 use Rattle.canon.specs.Reach.{reachWord, reach, depth, deepest}
 use Rattle.canon.specs.Table.{capacity, rowAt}
-use Rattle.canon.specs.Description.{kindOf, isTooLarge, Defined, define, mostWords, built}
+use Rattle.canon.specs.Description.{kindOf, isTooLarge, mostWords, built, buildAnswer}
 use Rattle.canon.specs.Question.{read}
 use Rattle.canon.proofs.Wider.{NeverSmaller, row-wider}
 use Rattle.canon.proofs.Rows.{definition-deep}
-use Rattle.canon.proofs.Refusals.{Product, Spells, accepted-spells, Passes, Tightest, either-none}
-use Rattle.canon.proofs.Stopped.{Comes, comes-room, ComesTo, stopped-nine, stopped-six, build-six}
-use Rattle.canon.proofs.Cells.{room-fits}
-use Rattle.canon.proofs.Costs.{build-within, isEarlier, accepted-rows}
+use Rattle.canon.proofs.Refusals.{Product, Spells, Passes, Tightest, either-none}
+use Rattle.canon.proofs.Stopped.{Comes, ComesTo, stopped-nine, stopped-six, build-six}
+use Rattle.canon.proofs.Costs.{build-within, so-far-read}
 use Rattle.canon.proofs.Built.{Accepted, built-sound, type-at, typeInfo, reads-built}
 use Rattle.build.specs.Means.{builtMeans, builtReads, accepted}
 use Rattle.build.specs.declared.Built.{Built}
@@ -59,18 +57,19 @@ module _ (κs : Lfts 2) (ws t : RefT (List ℕ)) (r : Built) (l : List ℕ) (pro
       × (u : Ty) × Spells (d .types) (d .word) (d .rest) u × (deepest < depth u))
   deep-at i = rw (promise .0) (stopped-nine (now ws) (now t) i)
 
-  -- accepted, it reports exactly the references of the form 64+j in the words; and never more than the words
+  -- accepted, it reports "exactly the number of references of the form 64+j in the description"
   pub reads-are : (n : ℕ) → builtMeans r ≡ ok n → builtReads r ≡ rowsRead (now ws)
   unfolding buildReads
   reads-are n e = promise .2 ∙ ap (λ (a : Answer ℕ). reported a (rowsRead (now ws))) (sym (promise .0) ∙ e)
 
-  -- of each definition that the build accepts, these are the references to an earlier one
-  pub reads-earlier :
-      {left : ℕ} {ts : List Ty} {w : ℕ} {vs : List ℕ} {d : Defined} → Comes (capacity (length (now t))) (now ws) (suc left) ts (w ∷ vs) → define ts w vs ≡ is d →
-      Every (λ v. isRow v ≡ isEarlier (length ts) v) (referencesBehind (kindOf w) vs)
-  reads-earlier {ts = ts} {w} {vs} {d} comes e =
-      accepted-rows ts (omega (arith, comes-room comes, room-fits (length (now t)) .0)) w vs (d .type) (accepted-spells ts w vs d e .0)
+  -- 02: "after each definition the running number is the one for the definitions so far": wherever this build comes to, a build of the words before is
+  -- accepted, and what it reports makes up the whole with what the rest reads
+  pub reads-so-far :
+      (n : ℕ) → builtMeans r ≡ ok n → {left : ℕ} {ts : List Ty} {vs : List ℕ} → Comes (capacity (length (now t))) (now ws) left ts vs →
+      (us : List ℕ) × (now ws ≡ us ++ vs) × (buildAnswer us (now t) ≡ ok (length ts)) × (builtReads r ≡ buildReads us (now t) + rowsRead vs)
+  reads-so-far n e c = rw (promise .2) (so-far-read (now ws) (now t) n (sym (promise .0) ∙ e) c)
 
+  -- accepted or not, it "never exceeds the number of words"
   pub reads-within : builtReads r ≤ length (now ws)
   reads-within = rw (promise .2) (build-within (now ws) (now t))
 

@@ -8,20 +8,20 @@ use native.Mathlib.Nat.{sub-zero}
 use native.Mathlib.Numerals.{add-one}
 use native.Mathlib.Omega.{arith}
 use lib.ListN.{length, getD, take, drop, drop-of-length-le, length-append, length-map, length-take}
-use lib.Seq.{take-all, take-add, drop-cons, drop-drop}
+use lib.Seq.{take-all, drop-cons, drop-drop}
 use borrow.Author.Tests.{lt-ltb, le-ltb}
 use Rattle.canon.specs.Answer.{Leaf, is, no as refuses, Answer, ok, refused, tooLong, noRoom}
 use Rattle.canon.specs.Types.{Ty}
 use Rattle.canon.specs.Row.{rowOf}
 use Rattle.canon.specs.Table.{capacity, putFrom, putRows}
-use Rattle.canon.specs.Description.{kindOf, shapeOf, bodyLength, Defined, define, Built, follow, buildFrom, mostWords, build, answered, built, buildAnswer, tableAfter}
+use Rattle.canon.specs.Description.{kindOf, Defined, define, Built, follow, buildFrom, mostWords, build, answered, built, buildAnswer, tableAfter}
 use Rattle.canon.proofs.Tests.{impossible}
 use Rattle.canon.proofs.Cells.{length-putRows, putRows-snoc}
 use Rattle.canon.proofs.Built.{Sound}
-use Rattle.canon.proofs.Stopped.{sound-more}
-use Rattle.canon.specs.Cost.{rowsAmong, referencesBehind, referencesFrom, rowsRead, reported, buildReads}
-use Rattle.canon.proofs.Refusals.{Spells, accepted-spells}
-use Rattle.canon.proofs.Costs.{Complete, none-complete, one-more-complete, one-more-read, rowsRead-most}
+use Rattle.canon.proofs.Stopped.{sound-more, Comes, begins as first, passes, comes-build}
+use Rattle.canon.specs.Cost.{rowsAmong, lengthBehind, referencesBehind, referencesFrom, rowsRead, reported, buildReads}
+use Rattle.canon.proofs.Refusals.{accepted-spells}
+use Rattle.canon.proofs.Costs.{rowsRead-next, comes-read, rowsRead-most}
 use Rattle.table.specs.Rows.{tableWith}
 use Rattle.table.proofs.Reading.{put-there}
 use Rattle.build.specs.Steps.{memberLook}
@@ -44,8 +44,7 @@ pub record Running (ws t u : List ℕ) (i at reads : ℕ) : Type 0 where
   pub sound : Sound (capacity (length t)) types
   pub held : u ≡ putRows (capacity (length t)) 0 (map rowOf types) t
   pub inside : at ≤ length ws
-  pub rest : buildFrom (capacity (length t) - i) types (drop at ws) ≡ buildFrom (capacity (length t)) [] ws
-  pub complete : Complete (take at ws)
+  pub comes : Comes (capacity (length t)) ws (capacity (length t) - i) types (drop at ws)
   pub read : reads ≡ rowsRead (take at ws)
 
 -- the answer a, the table u and what is reported with the answer are canon's
@@ -73,20 +72,13 @@ begins ws t =
       sound = record { passed = tt; fits = omega arith };
       held = refl;
       inside = omega arith;
-      rest = ap (λ (r : ℕ). buildFrom r [] ws) (sub-zero (capacity (length t)));
-      complete = none-complete;
+      comes = rw (sub-zero (capacity (length t))) first;
       read = refl;
     }
 
 map-snoc : (ts : List Ty) (t : Ty) → map rowOf (ts ++ t ∷ []) ≡ map rowOf ts ++ rowOf t ∷ []
 map-snoc [] t = refl
 map-snoc (u ∷ ts) t = ap (λ (rs : List (List ℕ)). rowOf u ∷ rs) (map-snoc ts t)
-
--- the words before the next definition
-next-words : (ws : List ℕ) (at n : ℕ) → at < length ws → take (at + 1 + n) ws ≡ take at ws ++ getD ws at 0 ∷ take n (drop (at + 1) ws)
-next-words ws at n h =
-    let e : at + 1 + n ≡ at + suc n = omega arith in
-    rw (e, take-add at (suc n) ws, drop-cons ws at 0 h, add-one at)
 
 module _ {ws t u : List ℕ} {i at reads : ℕ} (r : Running ws t u i at reads) where
   abbrev room : ℕ
@@ -108,7 +100,7 @@ module _ {ws t u : List ℕ} {i at reads : ℕ} (r : Running ws t u i at reads) 
   settled : (o : Option ℕ) → buildFrom (room - i) (r .types) (drop at ws) ≡ stop (r .types) o → length ws ≤ mostWords → Answered ws t u (answered i o)
   unfolding build
   settled o e short =
-      rw (r .held, ← (r .counted)) (answers ws t (r .types) o (rw (le-ltb mostWords (length ws) short) (sym (r .rest) ∙ e)))
+      rw (r .held, ← (r .counted)) (answers ws t (r .types) o (rw (le-ltb mostWords (length ws) short) (sym (comes-build (r .comes)) ∙ e)))
 
   pub ends : length ws ≤ mostWords → length ws ≤ at → Answered ws t u (ok i)
   unfolding buildFrom
@@ -158,28 +150,13 @@ module _ {ws t u : List ℕ} {i at reads : ℕ} (r : Running ws t u i at reads) 
       ∙ sym (putRows-snoc room 0 (map rowOf (r .types)) (rowOf x) t)
       ∙ ap (λ (rs : List (List ℕ)). putRows room 0 rs t) (sym (map-snoc (r .types) x))
 
-  module _ (x : Defined) (p : verdict ≡ is x) (h : at < length ws) where
-    abbrev after : ℕ
-    after = at + 1 + x .length
-
-    spelled : (s : Spells (r .types) (getD ws at 0) (drop (at + 1) ws) (x .type))
-        × (bodyLength (shapeOf (s .kind)) (getD (drop (at + 1) ws) 0 0) ≡ x .length)
-    spelled = accepted-spells (r .types) (getD ws at 0) (drop (at + 1) ws) x p
-
-    before : take after ws ≡ take at ws ++ getD ws at 0 ∷ take (bodyLength (shapeOf (spelled .0 .kind)) (getD (drop (at + 1) ws) 0 0)) (drop (at + 1) ws)
-    before = next-words ws at (x .length) h ∙ ap (λ (n : ℕ). take at ws ++ getD ws at 0 ∷ take n (drop (at + 1) ws)) (sym (spelled .1))
-
-    complete-after : Complete (take after ws)
-    complete-after =
-        let s = spelled .0 in
-        rw before (one-more-complete (getD ws at 0) (drop (at + 1) ws) (s .kind) (s .known) (s .whole) (take at ws) (r .complete))
-
-    read-after : reads + rowsAmong (referencesBehind (kindOf (getD ws at 0)) (drop (at + 1) ws)) ≡ rowsRead (take after ws)
-    read-after =
-        let s = spelled .0 in
-        rw before
-        (sym (one-more-read (getD ws at 0) (drop (at + 1) ws) (s .kind) (s .known) (s .whole) (take at ws) (r .complete)
-        ∙ ap (λ (n : ℕ). n + rowsAmong (referencesBehind (kindOf (getD ws at 0)) (drop (at + 1) ws))) (sym (r .read))))
+  -- what is read of it and of the rest is what was left to read
+  one-less : (x : Defined) → verdict ≡ is x → at < length ws →
+      rowsRead (drop at ws) ≡ rowsAmong (referencesBehind (kindOf (getD ws at 0)) (drop (at + 1) ws)) + rowsRead (drop (at + 1 + x .length) ws)
+  one-less x p h =
+      let s = accepted-spells (r .types) (getD ws at 0) (drop (at + 1) ws) x p in
+      let n : lengthBehind (kindOf (getD ws at 0)) (drop (at + 1) ws) ≡ x .length = rw (s .0 .known) (s .1) in
+      rw (drop-cons ws at 0 h, ← (add-one at), rowsRead-next (getD ws at 0) (drop (at + 1) ws), n, drop-drop (x .length) (at + 1) ws)
 
   pub goes-on :
       (d : DefinedIs) (read : ℕ) → definedAt (memberLook u i) ws at ≡ is d → read ≡ rowsAmong (referencesBehind (kindOf (getD ws at 0)) (drop (at + 1) ws)) →
@@ -190,17 +167,18 @@ module _ {ws t u : List ℕ} {i at reads : ℕ} (r : Running ws t u i at reads) 
       go (refuses x) p q = impossible (cc)
       go (is x) p q =
           let same : record { row = rowOf (x .type); next = at + 1 + x .length } ≡ d = cc in
+          let left : room - i ≡ suc (room - (i + 1)) = omega arith in
+          let next = rw (left, drop-cons ws at 0 h, ← (add-one at)) at (r .comes) in
+          let after = rw (drop-drop (x .length) (at + 1) ws) at (passes next p) in
+          let inside = moves-on (memberLook u i) ws at d e .1 in
           record {
             types = r .types ++ x .type ∷ [];
             counted = length-append (r .types) (x .type ∷ []) ∙ omega (arith, r .counted);
             sound = sound-more room (r .types) (getD ws at 0) (drop (at + 1) ws) x p (r .sound) (omega (arith, r .counted));
             held = rw (← same) (put (x .type) l);
-            inside = moves-on (memberLook u i) ws at d e .1;
-            rest =
-                rw (← same)
-                (ap (buildFrom (room - (i + 1)) (r .types ++ x .type ∷ [])) (sym (drop-drop (x .length) (at + 1) ws))
-                ∙ sym (opened h l ∙ ap followed p)
-                ∙ r .rest);
-            complete = rw (← same) (complete-after x p h);
-            read = rw (← same, f) (read-after x p h);
+            inside = inside;
+            comes = rw (← same) after;
+            read =
+                rw (← same, f)
+                (omega (arith, r .read, comes-read at (r .inside) (r .comes), comes-read (at + 1 + x .length) (rw (← same) at inside) after, one-less x p h));
           }

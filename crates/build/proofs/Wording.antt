@@ -13,7 +13,7 @@ use Rattle.flat_types.specs.Lists.{bothWords}
 use Rattle.flat_types.proofs.Halves.{whole-halves}
 use Rattle.table.specs.Means.{infoMeans}
 use Rattle.table.specs.declared.info.Info.{Info}
-use Rattle.build.specs.Means.{lookedMeans, ifRow}
+use Rattle.build.specs.Means.{lookedMeans, IfRow}
 use Rattle.build.specs.declared.reference.Looked.{Looked}
 use Rattle.build.specs.declared.reference.Looked.the-variants as looked
 use Rattle.build.specs.declared.row.Rowed.{Rowed}
@@ -42,7 +42,7 @@ unfolding andThen
 none-found f l s p q = rw (← p, q)
 
 -- what holds, holds where a row was made
-pub if-row-holds : (x : Rowed) {A : Type 0} → A → ifRow x A
+pub if-row-holds : (x : Rowed) {A : Type 0} → A → IfRow x A
 if-row-holds (rowed.Row r) a = a
 if-row-holds (rowed.Refused x) a = tt
 

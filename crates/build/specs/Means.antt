@@ -22,7 +22,7 @@ use Rattle.build.specs.declared.reference.Payload.{Payload}
 use Rattle.build.specs.declared.reference.Payload.the-variants as payload
 use Rattle.build.specs.declared.row.Rowed.{Rowed}
 use Rattle.build.specs.declared.row.Rowed.the-variants as rowed
-use Rattle.build.specs.declared.row.Counted.{Counted}
+use Rattle.build.specs.declared.row.Made.{Made}
 use Rattle.build.specs.declared.row.Limited.{Limited}
 use Rattle.build.specs.declared.row.Limited.the-variants as limited
 use Rattle.build.specs.declared.members.Members.{Members}
@@ -32,7 +32,7 @@ use Rattle.build.specs.declared.cases.Joined.the-variants as joined
 use Rattle.build.specs.declared.define.DefinedRow.{DefinedRow}
 use Rattle.build.specs.declared.define.DefinedRow.the-variants as defined
 
--- 01: "It answers the count, or the number with the definition's index"
+-- 01: "It answers the count" .. "or the number with the definition's index"
 abbrev pub builtMeans : Built → Answer ℕ
 builtMeans (built.Rows n reads) = ok n
 builtMeans (built.Refused x i) = refused (numberOf x) (i .0)
@@ -102,12 +102,12 @@ abbrev pub JoinedReads : Joined → ℕ → Type 0
 JoinedReads (joined.Payloads s reads) n = reads ≡ n
 JoinedReads joined.BadRef n = Unit {0}
 
-abbrev pub ifRow : Rowed → Type 0 → Type 0
-ifRow (rowed.Row r) t = t
-ifRow (rowed.Refused x) t = Unit {0}
+abbrev pub IfRow : Rowed → Type 0 → Type 0
+IfRow (rowed.Row r) t = t
+IfRow (rowed.Refused x) t = Unit {0}
 
-abbrev pub CountedReads : Counted → ℕ → Type 0
-CountedReads c n = ifRow (c .rowed) (c .reads ≡ n)
+abbrev pub MadeReads : Made → ℕ → Type 0
+MadeReads made n = IfRow (made .rowed) (made .reads ≡ n)
 
 abbrev pub DefinedReads : DefinedRow → ℕ → Type 0
 DefinedReads (defined.Row r next reads) n = reads ≡ n

@@ -8,14 +8,14 @@ ghost use Rattle.canon.specs.Cost.{rowsAmong};
 ghost use Rattle.types.specs.Means.{bytesOf};
 ghost use Rattle.table.specs.Means.{infoMeans};
 ghost use Rattle.head.specs.Heads.{between};
-ghost use Rattle.build.specs.Means.{payloadsMeans, joinedMeans, rowedMeans, JoinedReads, CountedReads};
+ghost use Rattle.build.specs.Means.{payloadsMeans, joinedMeans, rowedMeans, JoinedReads, MadeReads};
 ghost use Rattle.build.specs.Kinds.{variantRow, enumRow, optionRow};
 ghost use Rattle.build.specs.Steps.{noPayloads, addPayload, addIfPayload, payloadsRow, memberLook, caseLook, foldRefs};
 use crate::reference::Looked;
 use crate::reference::Payload;
 use crate::reference::case_at;
 use crate::reference::member_at;
-use crate::row::Counted;
+use crate::row::Made;
 use crate::row::Rowed;
 use crate::row::fit_row;
 use flat_types::FlatTypes;
@@ -110,17 +110,17 @@ fn cases_row(
     index: DefinitionIndex,
     kind: u32,
     size: DiscriminantSize,
-) -> Counted
+) -> Made
     requires { ⌜ (first ≤ end) × (end ≤ length (now words)) × (length (now words) ≤ 16384) × (index .0 ≤ 1024) ⌝ }
     ensures { λ r. ⌜ rowedMeans (r .rowed) ≡ foldRefs (caseLook (memberLook (now (table .entry)) (index .0))) addIfPayload (between (now (words .entry)) first end) noPayloads (payloadsRow kind (bytesOf size)) ⌝ }
-    ensures { λ r. ⌜ CountedReads r (rowsAmong (between (now (words .entry)) first end)) ⌝ }
+    ensures { λ r. ⌜ MadeReads r (rowsAmong (between (now (words .entry)) first end)) ⌝ }
 {
     let mut payloads = Payloads::start();
     let mut reads: u32 = 0;
     let mut at = first;
     while at < end {
         match payloads.add_case(table, index, words[at]) {
-            Joined::BadRef => return Counted::BAD_REF,
+            Joined::BadRef => return Made::BAD_REF,
             Joined::Payloads(more, read) => {
                 payloads = more;
                 reads += read;
@@ -128,7 +128,7 @@ fn cases_row(
         }
         at += 1;
     }
-    Counted {
+    Made {
         rowed: payloads.row(kind, size),
         reads,
     }
@@ -141,14 +141,14 @@ pub(crate) fn variant_row(
     table: &[u32],
     index: DefinitionIndex,
     kind: u32,
-) -> Counted
+) -> Made
     requires { ⌜ (first ≤ end) × (end ≤ length (now words)) × (length (now words) ≤ 16384) × (index .0 ≤ 1024) ⌝ }
     ensures { λ r. ⌜ rowedMeans (r .rowed) ≡ variantRow kind (memberLook (now (table .entry)) (index .0)) (between (now (words .entry)) first end) ⌝ }
-    ensures { λ r. ⌜ CountedReads r (rowsAmong (between (now (words .entry)) first end)) ⌝ }
+    ensures { λ r. ⌜ MadeReads r (rowsAmong (between (now (words .entry)) first end)) ⌝ }
 {
     let cases = (end - first) as u32;
     match DiscriminantSize::from_count(cases) {
-        DiscriminantAnswer::Refused(why) => Counted {
+        DiscriminantAnswer::Refused(why) => Made {
             rowed: Rowed::Refused(why),
             reads: 0,
         },
@@ -166,19 +166,14 @@ pub(crate) fn enum_row(n: u32) -> Rowed
 }
 
 // An option has the cases none and some.
-pub(crate) fn option_row(
-    words: &[u32],
-    first: usize,
-    table: &[u32],
-    index: DefinitionIndex,
-) -> Counted
+pub(crate) fn option_row(words: &[u32], first: usize, table: &[u32], index: DefinitionIndex) -> Made
     requires { ⌜ (first < length (now words)) × (index .0 ≤ 1024) ⌝ }
     ensures { λ r. ⌜ rowedMeans (r .rowed) ≡ andThen (memberLook (now (table .entry)) (index .0) (getD (now (words .entry)) first 0)) optionRow ⌝ }
-    ensures { λ r. ⌜ CountedReads r (rowsAmong (getD (now (words .entry)) first 0 ∷ [])) ⌝ }
+    ensures { λ r. ⌜ MadeReads r (rowsAmong (getD (now (words .entry)) first 0 ∷ [])) ⌝ }
 {
     match member_at(table, index, words[first]) {
-        Looked::BadRef => Counted::BAD_REF,
-        Looked::Info(payload, reads) => Counted {
+        Looked::BadRef => Made::BAD_REF,
+        Looked::Info(payload, reads) => Made {
             rowed: Payloads::start()
                 .add(payload)
                 .row(OPTION, DiscriminantSize::Size1),

@@ -6,7 +6,7 @@ ghost use Rattle.canon.specs.Description.{kindOf};
 ghost use Rattle.canon.specs.Cost.{rowsAmong, referencesBehind};
 ghost use Rattle.head.specs.Means.{headingMeans};
 ghost use Rattle.head.specs.Heads.{Spans, between};
-ghost use Rattle.build.specs.Means.{rowedMeans, definedMeans, CountedReads, DefinedReads};
+ghost use Rattle.build.specs.Means.{rowedMeans, definedMeans, MadeReads, DefinedReads};
 ghost use Rattle.build.specs.Steps.{memberLook};
 ghost use Rattle.build.specs.Kinds.{kindRow, definedAt};
 use crate::cases::enum_row;
@@ -14,7 +14,7 @@ use crate::cases::option_row;
 use crate::cases::variant_row;
 use crate::members::map_row;
 use crate::members::members_row;
-use crate::row::Counted;
+use crate::row::Made;
 use crate::row::Rowed;
 use crate::simple::fixed_row;
 use crate::simple::flags_row;
@@ -34,10 +34,10 @@ pub(crate) enum DefinedRow {
     Refused(Refusal),
 }
 
-fn kind_row(words: &[u32], heading: Heading, table: &[u32], index: DefinitionIndex) -> Counted
+fn kind_row(words: &[u32], heading: Heading, table: &[u32], index: DefinitionIndex) -> Made
     requires { ⌜ Spans (headingMeans heading) (length (now words)) × (length (now words) ≤ 16384) × (index .0 ≤ 1024) ⌝ }
     ensures { λ r. ⌜ rowedMeans (r .rowed) ≡ kindRow (memberLook (now (table .entry)) (index .0)) (now (words .entry)) (headingMeans heading) ⌝ }
-    ensures { λ r. ⌜ CountedReads r (rowsAmong (between (now (words .entry)) (heading .first) (heading .end))) ⌝ }
+    ensures { λ r. ⌜ MadeReads r (rowsAmong (between (now (words .entry)) (heading .first) (heading .end))) ⌝ }
 {
     let kind = heading.kind;
     let first = heading.first;
@@ -51,11 +51,11 @@ fn kind_row(words: &[u32], heading: Heading, table: &[u32], index: DefinitionInd
         }
         Kind::List => list_row(words, first, table, index),
         Kind::Map => map_row(words, first, table, index),
-        Kind::Flags => Counted {
+        Kind::Flags => Made {
             rowed: flags_row(heading.count),
             reads: 0,
         },
-        Kind::Enum => Counted {
+        Kind::Enum => Made {
             rowed: enum_row(heading.count),
             reads: 0,
         },

@@ -6,13 +6,13 @@ ghost use lib.ListN.{length, getD};
 ghost use Rattle.canon.specs.Cost.{rowsAmong};
 ghost use Rattle.table.specs.Means.{infoMeans};
 ghost use Rattle.head.specs.Heads.{between};
-ghost use Rattle.build.specs.Means.{membersMeans, rowedMeans, CountedReads};
+ghost use Rattle.build.specs.Means.{membersMeans, rowedMeans, MadeReads};
 ghost use Rattle.build.specs.Steps.{noMembers, addMember, membersRow, memberLook, foldRefs};
 ghost use Rattle.build.specs.Kinds.{entryRow, mapRow};
 use crate::reference::Looked;
 use crate::reference::member_at;
-use crate::row::Counted;
 use crate::row::Limited;
+use crate::row::Made;
 use crate::row::NO_INNER;
 use crate::row::Rowed;
 use crate::row::fit_row;
@@ -79,17 +79,17 @@ pub(crate) fn members_row(
     table: &[u32],
     index: DefinitionIndex,
     kind: u32,
-) -> Counted
+) -> Made
     requires { ⌜ (first ≤ end) × (end ≤ length (now words)) × (length (now words) ≤ 16384) × (index .0 ≤ 1024) ⌝ }
     ensures { λ r. ⌜ rowedMeans (r .rowed) ≡ foldRefs (memberLook (now (table .entry)) (index .0)) addMember (between (now (words .entry)) first end) noMembers (membersRow kind) ⌝ }
-    ensures { λ r. ⌜ CountedReads r (rowsAmong (between (now (words .entry)) first end)) ⌝ }
+    ensures { λ r. ⌜ MadeReads r (rowsAmong (between (now (words .entry)) first end)) ⌝ }
 {
     let mut members = Members::start();
     let mut reads: u32 = 0;
     let mut at = first;
     while at < end {
         match member_at(table, index, words[at]) {
-            Looked::BadRef => return Counted::BAD_REF,
+            Looked::BadRef => return Made::BAD_REF,
             Looked::Info(member, read) => {
                 members = members.add(member);
                 reads += read;
@@ -97,7 +97,7 @@ pub(crate) fn members_row(
         }
         at += 1;
     }
-    Counted {
+    Made {
         rowed: members.row(kind),
         reads,
     }
@@ -129,18 +129,18 @@ fn entry_row(key: Info, value: Info) -> Rowed
     }
 }
 
-pub(crate) fn map_row(words: &[u32], first: usize, table: &[u32], index: DefinitionIndex) -> Counted
+pub(crate) fn map_row(words: &[u32], first: usize, table: &[u32], index: DefinitionIndex) -> Made
     requires { ⌜ (first + 1 < length (now words)) × (index .0 ≤ 1024) ⌝ }
     ensures { λ r. ⌜ rowedMeans (r .rowed) ≡ mapRow (memberLook (now (table .entry)) (index .0)) (getD (now (words .entry)) first 0) (getD (now (words .entry)) (first + 1) 0) ⌝ }
-    ensures { λ r. ⌜ CountedReads r (rowsAmong (getD (now (words .entry)) first 0 ∷ getD (now (words .entry)) (first + 1) 0 ∷ [])) ⌝ }
+    ensures { λ r. ⌜ MadeReads r (rowsAmong (getD (now (words .entry)) first 0 ∷ getD (now (words .entry)) (first + 1) 0 ∷ [])) ⌝ }
 {
     match member_at(table, index, words[first]) {
-        Looked::BadRef => Counted::BAD_REF,
+        Looked::BadRef => Made::BAD_REF,
         Looked::Info(key, reads) => match member_at(table, index, words[first + 1]) {
-            Looked::BadRef => Counted::BAD_REF,
-            Looked::Info(value, more) => Counted {
+            Looked::BadRef => Made::BAD_REF,
+            Looked::Info(value, read) => Made {
                 rowed: entry_row(key, value),
-                reads: reads + more,
+                reads: reads + read,
             },
         },
     }

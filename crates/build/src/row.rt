@@ -25,13 +25,13 @@ pub(crate) enum Rowed {
 }
 
 // Holds what a definition's body makes, and how many rows were read back for it: of a refusal the number tells nothing.
-pub(crate) struct Counted {
+pub(crate) struct Made {
     pub(crate) rowed: Rowed,
     pub(crate) reads: u32,
 }
 
-impl Counted {
-    pub(crate) const BAD_REF: Counted = Counted {
+impl Made {
+    pub(crate) const BAD_REF: Made = Made {
         rowed: Rowed::Refused(Refusal::BadRef),
         reads: 0,
     };

@@ -6,12 +6,12 @@ ghost use lib.ListN.{length, getD};
 ghost use Rattle.canon.specs.Answer.{andThen};
 ghost use Rattle.canon.specs.Cost.{rowsAmong};
 ghost use Rattle.table.specs.Means.{infoMeans};
-ghost use Rattle.build.specs.Means.{rowedMeans, CountedReads};
+ghost use Rattle.build.specs.Means.{rowedMeans, MadeReads};
 ghost use Rattle.build.specs.Steps.{memberLook};
 ghost use Rattle.build.specs.Kinds.{listRow, fixedRow, flagsRow};
 use crate::reference::Looked;
 use crate::reference::member_at;
-use crate::row::Counted;
+use crate::row::Made;
 use crate::row::NO_INNER;
 use crate::row::Rowed;
 use crate::row::fit_row;
@@ -40,38 +40,28 @@ fn list_of(element: Info) -> Rowed
     }
 }
 
-pub(crate) fn list_row(
-    words: &[u32],
-    first: usize,
-    table: &[u32],
-    index: DefinitionIndex,
-) -> Counted
+pub(crate) fn list_row(words: &[u32], first: usize, table: &[u32], index: DefinitionIndex) -> Made
     requires { ⌜ (first < length (now words)) × (index .0 ≤ 1024) ⌝ }
     ensures { λ r. ⌜ rowedMeans (r .rowed) ≡ andThen (memberLook (now (table .entry)) (index .0) (getD (now (words .entry)) first 0)) listRow ⌝ }
-    ensures { λ r. ⌜ CountedReads r (rowsAmong (getD (now (words .entry)) first 0 ∷ [])) ⌝ }
+    ensures { λ r. ⌜ MadeReads r (rowsAmong (getD (now (words .entry)) first 0 ∷ [])) ⌝ }
 {
     match member_at(table, index, words[first]) {
-        Looked::BadRef => Counted::BAD_REF,
-        Looked::Info(element, reads) => Counted {
+        Looked::BadRef => Made::BAD_REF,
+        Looked::Info(element, reads) => Made {
             rowed: list_of(element),
             reads,
         },
     }
 }
 
-pub(crate) fn fixed_row(
-    words: &[u32],
-    first: usize,
-    table: &[u32],
-    index: DefinitionIndex,
-) -> Counted
+pub(crate) fn fixed_row(words: &[u32], first: usize, table: &[u32], index: DefinitionIndex) -> Made
     requires { ⌜ (first + 1 < length (now words)) × (index .0 ≤ 1024) ⌝ }
     ensures { λ r. ⌜ rowedMeans (r .rowed) ≡ andThen (memberLook (now (table .entry)) (index .0) (getD (now (words .entry)) first 0)) (fixedRow (getD (now (words .entry)) (first + 1) 0)) ⌝ }
-    ensures { λ r. ⌜ CountedReads r (rowsAmong (getD (now (words .entry)) first 0 ∷ [])) ⌝ }
+    ensures { λ r. ⌜ MadeReads r (rowsAmong (getD (now (words .entry)) first 0 ∷ [])) ⌝ }
 {
     let count = words[first + 1];
     match member_at(table, index, words[first]) {
-        Looked::BadRef => Counted::BAD_REF,
+        Looked::BadRef => Made::BAD_REF,
         Looked::Info(element, reads) => {
             let layouts = element.layouts;
             let flat = element.flat;
@@ -83,7 +73,7 @@ pub(crate) fn fixed_row(
                 NO_INNER,
                 parts,
             );
-            Counted { rowed, reads }
+            Made { rowed, reads }
         }
     }
 }

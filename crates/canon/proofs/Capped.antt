@@ -196,11 +196,11 @@ pub placement-first :
 unfolding placementAnswer
 placement-first m t n ws room = rw (placing-first m t n ws room)
 
-pub reads-first :
+pub placement-reads-first :
     (m : Memory) (t : List ℕ) (n : ℕ) (ws : List ℕ) (room : ℕ) →
     placementReads m (take 16384 t) n (take 16385 ws) (min 16384 room) ≡ placementReads m t n ws room
 unfolding placementReads
-reads-first m t n ws room = rw (placement-first m t n ws room) (go (tooMany ws) refl)
+placement-reads-first m t n ws room = rw (placement-first m t n ws room) (go (tooMany ws) refl)
   where
     go : (many : Bool) → tooMany ws ≡ many → reported (placementAnswer m t n ws room) (rowsAmong (take 16385 ws)) ≡ reported (placementAnswer m t n ws room) (rowsAmong ws)
     go true e = rw (long-placement m t n ws room (ltb-true mostWords (length ws) e))

@@ -10,7 +10,7 @@ use native.Mathlib.Decide.{decLe}
 use native.Mathlib.Numerals.{add-one}
 use native.Mathlib.Omega.{arith}
 use lib.Dec.{leb, ltb, eqb}
-use lib.ListN.{length, getD, take, drop, getElem?, length-append, length-take, length-drop}
+use lib.ListN.{length, getD, take, drop, getElem?, length-append, length-take, length-drop, take-append-drop}
 use lib.Seq.{length-take-le, take-suc, take-at, drop-at}
 use borrow.Author.Tests.{ltb-true, leb-true, eqb-true, lt-leb, le-leb, lt-ltb, le-ltb, eq-eqb, ne-eqb}
 use Rattle.canon.specs.Types.{Ty, plain, bare, holding, Kind}
@@ -18,17 +18,18 @@ use Rattle.canon.specs.Answer.{is, no as refuses, Answer, ok, refused, t
 use Rattle.canon.specs.Layout.{Memory}
 use Rattle.canon.specs.Reach.{wordReach, goodReach, reach, depth}
 use Rattle.canon.specs.Row.{Info, infoOf, rowAbi, rowInfo, word, unusedZero, isDiscriminant, isGood}
-use Rattle.canon.specs.Table.{rowAt}
+use Rattle.canon.specs.Table.{capacity, rowAt}
 use Rattle.canon.specs.Question.{plainInfo, readRow, read, infos, noTable, ask, placing, placementAnswer}
-use Rattle.canon.specs.Description.{reference, mark, caseOf, kindOf, Shape, counted, fixed, shapeOf, bodyLength, referencesOf, mostWords, build, buildAnswer}
+use Rattle.canon.specs.Description.{reference, mark, caseOf, kindOf, Shape, counted, fixed, shapeOf, bodyLength, referencesOf, Defined, bodied, define, mostWords, build, buildAnswer}
 use Rattle.canon.specs.Cost.{isRow, rowsAmong, lengthBehind, referencesBehind, referencesFrom, rowsRead, reported, buildReads, placementReads}
 use Rattle.canon.proofs.Tests.{impossible, both-true}
 use Rattle.canon.proofs.Bodies.{body-some, NamesOrMark, body-named}
 use Rattle.canon.proofs.Tightest.{every-more}
 use Rattle.canon.proofs.Built.{found-inside, at-each}
-use Rattle.canon.proofs.Refusals.{Spells}
+use Rattle.canon.proofs.Refusals.{Spells, accepted-spells}
+use Rattle.canon.proofs.Stopped.{Comes, begins, passes, comes-room, comes-all}
 use Rattle.canon.proofs.Cells.{rows-most}
-use Rattle.canon.proofs.Questions.{after-abi, first-ok}
+use Rattle.canon.proofs.Questions.{after-abi, read-below, first-ok}
 use Rattle.canon.specs.Placement.{Every}
 
 -- Among references
@@ -59,6 +60,14 @@ unfolding referencesFrom
 past-body zero ws = refl
 past-body (suc left) [] = refl
 past-body (suc left) (w ∷ ws) = past-body left ws
+
+-- one definition and what stands behind it
+pub rowsRead-next : (w : ℕ) (ws : List ℕ) → rowsRead (w ∷ ws) ≡ rowsAmong (referencesBehind (kindOf w) ws) + rowsRead (drop (lengthBehind (kindOf w) ws) ws)
+unfolding referencesFrom
+rowsRead-next w ws =
+    let n = lengthBehind (kindOf w) ws in
+    rows-append (referencesBehind (kindOf w) ws) (referencesFrom n ws)
+    ∙ ap (λ (l : List ℕ). rowsAmong (referencesBehind (kindOf w) ws) + rowsAmong l) (past-body n ws)
 
 shape-few : (s : Shape) (b : List ℕ) → length (referencesOf s b) ≤ length b
 shape-few counted b = omega (arith, length-drop 1 b)
@@ -127,11 +136,11 @@ module _ (m : Memory) (t : List ℕ) (n : ℕ) (ws : List ℕ) (room : ℕ) wher
 
 -- The running number
 
--- these words are whole definitions: what stands behind them begins with another
-abbrev pub Complete : List ℕ → Type 0
+-- no body that begins in these words goes on behind them: what stands there is read as a description of its own
+abbrev Complete : List ℕ → Type 0
 Complete us = (vs : List ℕ) → referencesFrom 0 (us ++ vs) ≡ referencesFrom 0 us ++ referencesFrom 0 vs
 
-pub none-complete : Complete []
+none-complete : Complete []
 unfolding referencesFrom
 none-complete vs = refl
 
@@ -165,7 +174,7 @@ module _ (w : ℕ) (ws : List ℕ) (k : Kind) (known : kindOf w ≡ some k) (the
       ∙ definition-first []
       ∙ append-nil (referencesBehind (kindOf w) ws)
 
-  pub one-more-complete : (us : List ℕ) → Complete us → Complete (us ++ w ∷ body)
+  one-more-complete : (us : List ℕ) → Complete us → Complete (us ++ w ∷ body)
   one-more-complete us h vs =
       ap (referencesFrom 0) (append-assoc us (w ∷ body) vs)
       ∙ h (w ∷ body ++ vs)
@@ -179,6 +188,74 @@ module _ (w : ℕ) (ws : List ℕ) (k : Kind) (known : kindOf w ≡ some k) (the
       ap rowsAmong (h (w ∷ body))
       ∙ rows-append (referencesFrom 0 us) (referencesFrom 0 (w ∷ body))
       ∙ ap (λ (l : List ℕ). rowsRead us + rowsAmong l) alone
+
+  -- and what stands behind it does not change what it defines
+  body-alone : (ts : List Ty) (vs : List ℕ) → define ts w (body ++ vs) ≡ define ts w ws
+  unfolding bodied
+  body-alone ts vs =
+      let n = bodyLength (shapeOf k) (getD ws 0 0) in
+      rw (known, same-count vs, take-at body vs n body-length, le-ltb (length ws) n there, le-ltb (length (body ++ vs)) n (omega (arith, length-append body vs, body-length)))
+
+-- where a build comes to the words vs after the types ts: the words before them are whole definitions, and with any words behind them it comes as far
+record SoFar (room : ℕ) (ws : List ℕ) (left : ℕ) (ts : List Ty) (vs : List ℕ) : Type 0 where
+  words : List ℕ
+  before : ws ≡ words ++ vs
+  complete : Complete words
+  again : (zs : List ℕ) → Comes room (words ++ zs) left ts zs
+
+so-far : {room : ℕ} {ws : List ℕ} {left : ℕ} {ts : List Ty} {vs : List ℕ} → Comes room ws left ts vs → SoFar room ws left ts vs
+so-far begins = record { words = []; before = refl; complete = none-complete; again = λ zs. begins }
+so-far {room} {ws} (passes {left} {ts} {w} {vs} {d} c e) =
+    let b = so-far c in
+    let s = accepted-spells ts w vs d e in
+    let body : List ℕ = take (bodyLength (shapeOf (s .0 .kind)) (getD vs 0 0)) vs in
+    record {
+      words = b .words ++ w ∷ body;
+      before =
+          b .before
+          ∙ ap (λ (l : List ℕ). b .words ++ w ∷ l) (sym (take-append-drop (d .length) vs))
+          ∙ rw (s .1) (sym (append-assoc (b .words) (w ∷ take (d .length) vs) (drop (d .length) vs)));
+      complete = one-more-complete w vs (s .0 .kind) (s .0 .known) (s .0 .whole) (b .words) (b .complete);
+      again = λ zs.
+          rw (append-assoc (b .words) (w ∷ body) zs)
+          (rw (drop-at body zs (d .length) (body-length w vs (s .0 .kind) (s .0 .known) (s .0 .whole) ∙ s .1))
+          at (passes (b .again (w ∷ body ++ zs)) (body-alone w vs (s .0 .kind) (s .0 .known) (s .0 .whole) ts zs ∙ e)));
+    }
+
+-- the rows read before and behind make up the whole
+so-far-sum : {room : ℕ} {ws : List ℕ} {left : ℕ} {ts : List Ty} {vs : List ℕ} (b : SoFar room ws left ts vs) → rowsRead ws ≡ rowsRead (b .words) + rowsRead vs
+so-far-sum {vs = vs} b = ap rowsRead (b .before) ∙ ap rowsAmong (b .complete vs) ∙ rows-append (referencesFrom 0 (b .words)) (referencesFrom 0 vs)
+
+-- by the place where they part
+pub comes-read :
+    {room : ℕ} {ws : List ℕ} {left : ℕ} {ts : List Ty} (at : ℕ) → at ≤ length ws → Comes room ws left ts (drop at ws) →
+    rowsRead ws ≡ rowsRead (take at ws) + rowsRead (drop at ws)
+comes-read {ws = ws} at h c =
+    let b = so-far c in
+    let us = b .words in
+    let n : length us ≡ at = omega (arith, ap length (b .before), length-append us (drop at ws), length-drop at ws) in
+    let same : take at ws ≡ us = ap (take at) (b .before) ∙ take-at us (drop at ws) at n in
+    so-far-sum b ∙ ap (λ (l : List ℕ). rowsRead l + rowsRead (drop at ws)) (sym same)
+
+accepted-short : (ws t : List ℕ) (n : ℕ) → buildAnswer ws t ≡ ok n → length ws ≤ mostWords
+accepted-short ws t n e =
+    elim (decLe (length ws) mostWords) [
+      | yes h ↦ h
+      | no h ↦ let r = long-build ws t (omega arith) in impossible (cc)
+    ]
+
+-- so a build of the definitions so far is accepted and reports the running number: with what the rest reads it makes up the whole
+pub so-far-read :
+    (ws t : List ℕ) (n : ℕ) → buildAnswer ws t ≡ ok n → {left : ℕ} {ts : List Ty} {vs : List ℕ} → Comes (capacity (length t)) ws left ts vs →
+    (us : List ℕ) × (ws ≡ us ++ vs) × (buildAnswer us t ≡ ok (length ts)) × (buildReads ws t ≡ buildReads us t + rowsRead vs)
+unfolding buildReads
+so-far-read ws t n e {vs = vs} c =
+    let b = so-far c in
+    let us = b .words in
+    let short = accepted-short ws t n e in
+    let few : length us ≤ mostWords = omega (arith, short, ap length (b .before), length-append us vs) in
+    let accepted = comes-all us t (rw (append-nil us) at (b .again [])) few in
+    (us, b .before, accepted, rw (e, accepted) (so-far-sum b))
 
 -- What is accepted
 
@@ -237,12 +314,18 @@ named-row ts few w h = go (eqb w mark) (leb 64 w) refl refl (h .1)
             earlier-row (length ts) few w (leb-true 64 w f) l ∙ sym (rw (f, lt-ltb (w - 64) (length ts) l))
 
 -- of every reference of a definition that a build accepts
-pub accepted-rows :
+accepted-rows :
     (ts : List Ty) → length ts ≤ 1024 → (w : ℕ) (ws : List ℕ) (t : Ty) → Spells ts w ws t →
     Every (λ v. isRow v ≡ isEarlier (length ts) v) (referencesBehind (kindOf w) ws)
 accepted-rows ts few w ws t s =
     let b = take (bodyLength (shapeOf (s .kind)) (getD ws 0 0)) ws in
     rw (s .known) (every-more (named-row ts few) (referencesOf (shapeOf (s .kind)) b) (body-named ts (s .kind) b t (s .named)))
+
+-- where a build comes to it
+pub comes-rows :
+    {room : ℕ} → room ≤ 1024 → {ws : List ℕ} {left : ℕ} {ts : List Ty} {w : ℕ} {vs : List ℕ} {d : Defined} →
+    Comes room ws (suc left) ts (w ∷ vs) → define ts w vs ≡ is d → Every (λ v. isRow v ≡ isEarlier (length ts) v) (referencesBehind (kindOf w) vs)
+comes-rows few {ts = ts} {w} {vs} {d} c e = accepted-rows ts (omega (arith, comes-room c)) w vs (d .type) (accepted-spells ts w vs d e .0)
 
 -- Reading a table
 
@@ -282,12 +365,28 @@ module _ (t : List ℕ) (n : ℕ) (there : noTable t n ≡ false) where
           rw (p, ← same, plain-depth w u f)
 
   pub named-read : (w : ℕ) (i : Info) → read t n w ≡ is i → 64 ≤ w → rowsAmong (w ∷ []) ≡ 1
-  unfolding rowsAmong read
-  named-read w i e h = go (ltb (w - 64) n) refl (rw (le-leb 64 w h) at e)
+  named-read w i e h = sym (rw (le-leb 64 w h) at (below-mark-read w (omega (arith, read-below t n w i there e))))
+
+  -- and exactly when it names one of the rows
+  read-named : (w : ℕ) (i : Info) → read t n w ≡ is i → isRow w ≡ isEarlier n w
+  unfolding read
+  read-named w i h = go (leb 64 w) (ltb (w - 64) n) refl refl h
     where
-      go : (c : Bool) → ltb (w - 64) n ≡ c → cond c (readRow (rowAt t (w - 64))) (refuses badRef) ≡ is i → cond (isRow w) 1 0 + 0 ≡ 1
-      go true p q = earlier-read n (rows-most t n there) w h (ltb-true (w - 64) n p)
-      go false p q = impossible (cc)
+      go :
+          (b c : Bool) → leb 64 w ≡ b → ltb (w - 64) n ≡ c →
+          cond b (cond c (readRow (rowAt t (w - 64))) (refuses badRef)) (plainInfo (getElem? plain w)) ≡ is i → isRow w ≡ isEarlier n w
+      go true true p q e = earlier-row n (rows-most t n there) w (leb-true 64 w p) (ltb-true (w - 64) n q) ∙ sym (rw (p, q))
+      go true false p q e = impossible (cc)
+      go false c p q e = plain-row n (rows-most t n there) w p
+
+-- of every reference of a list that is read
+pub infos-named :
+    (t : List ℕ) (n : ℕ) → noTable t n ≡ false → (p : ℕ) (ws : List ℕ) (is′ : List Info) → infos (read t n) p ws ≡ ok is′ → Every (λ v. isRow v ≡ isEarlier n v) ws
+unfolding infos
+infos-named t n there p [] is′ e = tt
+infos-named t n there p (w ∷ ws) is′ e =
+    let r = first-ok p (read t n w) (infos (read t n) (suc p) ws) is′ e in
+    (read-named t n there w (r .0) (r .2), infos-named t n there (suc p) ws (r .1) (r .3))
 
 -- how many of these infos are those of definitions
 unfoldable pub deepAmong : List Info → ℕ

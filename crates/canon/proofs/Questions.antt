@@ -6,29 +6,29 @@ use mathlib.Core.Logic.{_↔_}
 use mathlib.Core.Bool.{Bool, true, false, cond, _||_, _&&_}
 use mathlib.Core.List.{List, [], _∷_, _++_, map, map-append, Forall₂, Forall₂·nil as empty, Forall₂·cons as pair}
 use mathlib.Core.Option.{Option, none, some}
-use Prim.Native.Nat.{ℕ, suc, _-_, _≤_, _<_}
+use Prim.Native.Nat.{ℕ, suc, _+_, _-_, _≤_, _<_}
 use native.Mathlib.Decide.{decLe}
 use native.Mathlib.Omega.{arith}
 use lib.Dec.{leb, ltb}
 use lib.ListN.{length, take, drop, getElem?, length-map}
 use lib.Seq.{take-at}
-use borrow.Author.Tests.{ltb-true, ltb-false, le-ltb}
+use borrow.Author.Tests.{ltb-true, ltb-false, leb-false, le-ltb}
 use Rattle.canon.specs.Answer.{Leaf, is, no as refuses, Answer, ok, refused, atPosition, then, unless, mapOption2, mapOption, tooLong, badRef, tooLarge, noRoom, badRow}
 use Rattle.canon.specs.Types.{Ty, Core, plain}
-use Rattle.canon.specs.Layout.{Memory, mem32, mem64, Layout, within, starts, lastEnd, recordSize, layout, largestNumber}
+use Rattle.canon.specs.Layout.{Memory, mem32, mem64, Layout, within, roundUp, endAfter, starts, lastEnd, recordSize, recordLayout, layout, largestNumber}
 use Rattle.canon.specs.Flat.{flatten, flatCount}
 use Rattle.canon.specs.Reach.{goodReach, reach}
 use Rattle.canon.specs.Row.{Info, infoLayout, infoOf, rowAbi, rowInfo, rowOf, word, unusedZero, goodAbi, isDiscriminant, isGood}
 use Rattle.canon.specs.Table.{capacity, rowAt}
-use Rattle.canon.specs.Description.{reference, built, tableAfter}
-use Rattle.canon.specs.Question.{plainInfo, readRow, reading, read, infos, tooMany, noTable, ask, askTwo, typeAnswer, layoutsIn, Placing, placed, placing, bufferAfter, offsetsAfter, anyBorrow}
+use Rattle.canon.specs.Description.{reference, mostWords, built, tableAfter}
+use Rattle.canon.specs.Question.{plainInfo, readRow, reading, read, infos, tooMany, noTable, ask, askTwo, typeAnswer, firstOver, orSize, refusedAt, layoutsIn, Placing, judged, placed, placing, bufferAfter, offsetsAfter, anyBorrow}
 use Rattle.canon.specs.Signature.{flatAll}
 use Rattle.canon.proofs.Tests.{impossible, both-true}
 use Rattle.canon.proofs.Tightest.{Aligned}
 use Rattle.canon.proofs.Alignments.{layout-aligned}
 use Rattle.canon.proofs.Wider.{_≼_, both-aligned, starts-wider, record-wider, layout-wider, starts-append}
 use Rattle.canon.proofs.Refusals.{Tightest, placed-fits, placed-large, placed-six, placed-is, placed-tightest}
-use Rattle.canon.proofs.Cells.{length-putRows}
+use Rattle.canon.proofs.Cells.{rows-most, length-putRows}
 use Rattle.canon.proofs.Rows.{flat-back}
 use Rattle.canon.proofs.Built.{typeInfo, built-sound, reads-built}
 use Rattle.canon.proofs.Rounding.{Alignment, abi-tested}
@@ -93,6 +93,18 @@ pub read-aligned : (m : Memory) (t : List ℕ) (n w : ℕ) (i : Info) → read t
 read-aligned m =
     read-has (λ i. Alignment (within m (i .abi .layouts) .align)) (info-aligned m) (λ r good. abi-tested (rowAbi r) (row-tested r good) m)
 
+-- a reference that gives something is below 1088: 64, and a row for each of 1,024
+pub read-below : (t : List ℕ) (n w : ℕ) (i : Info) → noTable t n ≡ false → read t n w ≡ is i → w < 1088
+unfolding read
+read-below t n w i e h = go (leb 64 w) (ltb (w - 64) n) refl refl h
+  where
+    go :
+        (b c : Bool) → leb 64 w ≡ b → ltb (w - 64) n ≡ c →
+        cond b (cond c (readRow (rowAt t (w - 64))) (refuses badRef)) (plainInfo (getElem? plain w)) ≡ is i → w < 1088
+    go true true p q h = omega (arith, ltb-true (w - 64) n q, rows-most t n e)
+    go true false p q h = impossible (cc)
+    go false c p q h = omega (arith, leb-false 64 w p)
+
 -- the infos of a list, one after another
 pub first-ok :
     (p : ℕ) (l : Leaf Info) (a : Answer (List Info)) (is′ : List Info) →
@@ -134,6 +146,60 @@ pub record Reads (t : List ℕ) (n : ℕ) (ws : List ℕ) (room : ℕ) (is′ : 
 pub placing-reads : {t : List ℕ} {n : ℕ} {ws : List ℕ} {room : ℕ} {is′ : List Info} (m : Memory) → Reads t n ws room is′ → placing m t n ws room ≡ placed (layoutsIn m is′)
 unfolding placing ask unless then
 placing-reads {ws = ws} {room = room} m r = rw (r .few, r .table, le-ltb room (length ws) (r .fits), r .gives)
+
+-- a refusal's position is that of a reference, or 0
+
+over-within : (p e : ℕ) (fs : List Layout) (i : ℕ) → firstOver p e fs ≡ some i → i ≤ p + length fs
+unfolding firstOver
+over-within p e [] i h = impossible (cc)
+over-within p e (f ∷ fs) i h = go (ltb largestNumber (roundUp e (f .align)) || ltb largestNumber (endAfter e f)) h (over-within (suc p) (endAfter e f) fs i)
+  where
+    go : (b : Bool) → cond b (some p) (firstOver (suc p) (endAfter e f) fs) ≡ some i → (firstOver (suc p) (endAfter e f) fs ≡ some i → i ≤ suc p + length fs) → i ≤ p + suc (length fs)
+    go true g more = let q : p ≡ i = cc in omega arith
+    go false g more = omega (arith, more g)
+
+placed-within : (fs : List Layout) (x i : ℕ) → placed fs ≡ refused x i → i ≤ length fs
+unfolding placed judged refusedAt orSize
+placed-within fs x i h = go (firstOver 0 0 fs) refl h
+  where
+    p : Placing
+    p = record { layout = recordLayout fs; offsets = starts 0 fs }
+
+    size : (b : Bool) → judged (cond b (some 0) none) p ≡ refused x i → i ≤ length fs
+    size true g = let q : 0 ≡ i = cc in omega arith
+    size false g = impossible (cc)
+
+    go : (o : Option ℕ) → firstOver 0 0 fs ≡ o → judged (orSize o (recordSize fs)) p ≡ refused x i → i ≤ length fs
+    go none e g = size (ltb largestNumber (recordSize fs)) g
+    go (some j) e g = let q : j ≡ i = cc in omega (arith, over-within 0 0 fs j e)
+
+infos-within : (look : ℕ → Leaf Info) (p : ℕ) (ws : List ℕ) (x i : ℕ) → infos look p ws ≡ refused x i → i ≤ p + length ws
+unfolding infos then atPosition
+infos-within look p [] x i e = impossible (cc)
+infos-within look p (w ∷ ws) x i e = go (look w) (infos look (suc p) ws) e (infos-within look (suc p) ws)
+  where
+    go :
+        (l : Leaf Info) (a : Answer (List Info)) → then (atPosition p l) (λ j. then a (λ js. ok (j ∷ js))) ≡ refused x i →
+        ((y k : ℕ) → a ≡ refused y k → k ≤ suc p + length ws) → i ≤ p + suc (length ws)
+    go (refuses y) a g more = let q : p ≡ i = cc in omega arith
+    go (is j) (ok js) g more = impossible (cc)
+    go (is j) (refused y k) g more = let q : k ≡ i = cc in omega (arith, more y k refl)
+
+pub placing-within : (m : Memory) (t : List ℕ) (n : ℕ) (ws : List ℕ) (room x i : ℕ) → placing m t n ws room ≡ refused x i → i ≤ mostWords
+unfolding placing ask unless then
+placing-within m t n ws room x i = go (tooMany ws) (noTable t n) (ltb room (length ws)) (infos (read t n) 0 ws) refl refl
+  where
+    go :
+        (many missing short : Bool) (a : Answer (List Info)) → tooMany ws ≡ many → infos (read t n) 0 ws ≡ a →
+        unless many tooLong (unless missing badRow (unless short noRoom (then a (λ is′. placed (layoutsIn m is′))))) ≡ refused x i → i ≤ mostWords
+    go true missing short a e f h = let q : 0 ≡ i = cc in omega arith
+    go false true short a e f h = let q : 0 ≡ i = cc in omega arith
+    go false false true a e f h = let q : 0 ≡ i = cc in omega arith
+    go false false false (refused y k) e f h =
+        let q : k ≡ i = cc in
+        omega (arith, infos-within (read t n) 0 ws y k f, ltb-false mostWords (length ws) e)
+    go false false false (ok is′) e f h =
+        omega (arith, placed-within (layoutsIn m is′) x i h, length-map is′ (infoLayout m), infos-length (read t n) 0 ws is′ f, ltb-false mostWords (length ws) e)
 
 pub placing-six :
     {t : List ℕ} {n : ℕ} {ws : List ℕ} {room : ℕ} {is′ : List Info} (m : Memory) → Reads t n ws room is′ →

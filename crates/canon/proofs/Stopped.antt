@@ -11,7 +11,7 @@ use native.Mathlib.Decide.{decLe}
 use native.Mathlib.Omega.{arith}
 use lib.ListN.{length, drop, length-append}
 use borrow.Author.Tests.{lt-ltb, le-ltb}
-use Rattle.canon.specs.Answer.{Leaf, is, no as refuses, refused, tooLong, tooLarge, noRoom, tooDeep}
+use Rattle.canon.specs.Answer.{Leaf, is, no as refuses, ok, refused, tooLong, tooLarge, noRoom, tooDeep}
 use Rattle.canon.specs.Types.{Ty, Members, Kind}
 use Rattle.canon.specs.Layout.{mem32, mem64, members}
 use Rattle.canon.specs.Reach.{depth, deepest}
@@ -37,7 +37,7 @@ pub data Comes (room : ℕ) (ws : List ℕ) : ℕ → List Ty → List ℕ → T
       define ts w vs ≡ is d →
       Comes room ws left (ts ++ d .type ∷ []) (drop (d .length) vs)
 
-comes-build : {room : ℕ} {ws : List ℕ} {left : ℕ} {ts : List Ty} {vs : List ℕ} → Comes room ws left ts vs → buildFrom left ts vs ≡ buildFrom room [] ws
+pub comes-build : {room : ℕ} {ws : List ℕ} {left : ℕ} {ts : List Ty} {vs : List ℕ} → Comes room ws left ts vs → buildFrom left ts vs ≡ buildFrom room [] ws
 unfolding buildFrom
 comes-build begins = refl
 comes-build (passes c e) = rw e at (comes-build c)
@@ -56,6 +56,16 @@ grows left ts vs =
 short-build : (ws t : List ℕ) → length ws ≤ mostWords → built ws t ≡ buildFrom (capacity (length t)) [] ws
 unfolding build
 short-build ws t h = rw (le-ltb mostWords (length ws) h)
+
+-- a build that comes to the end accepts all
+pub comes-all :
+    (ws t : List ℕ) {left : ℕ} {ts : List Ty} → Comes (capacity (length t)) ws left ts [] → length ws ≤ mostWords → buildAnswer ws t ≡ ok (length ts)
+unfolding buildAnswer buildFrom
+comes-all ws t {left} {ts} c short = rw (short-build ws t short, ← (comes-build c)) (go left)
+  where
+    go : (k : ℕ) → answered (length (buildFrom k ts [] .types)) (buildFrom k ts [] .stopped) ≡ ok (length ts)
+    go zero = refl
+    go (suc k) = refl
 
 -- at a definition that it comes to, a build is refused exactly as the definition is
 module _ (ws t : List ℕ) {left : ℕ} {ts : List Ty} {w : ℕ} {vs : List ℕ} (c : Comes (capacity (length t)) ws (suc left) ts (w ∷ vs)) where

@@ -11,7 +11,7 @@ use Rattle.canon.specs.Answer.{Answer, ok, refused}
 use Rattle.canon.specs.Description.{mark, kindOf, shapeOf, bodyLength, referencesOf, buildAnswer}
 use Rattle.canon.specs.Question.{placementAnswer}
 
--- a reference "of the form 64+j"; the mark is none
+-- a reference "of the form 64+j": 64 or more, and not the mark, which means "no payload"
 abbrev pub isRow : ℕ → Bool
 isRow w = leb 64 w && not (eqb w mark)
 

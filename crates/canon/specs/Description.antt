@@ -149,7 +149,7 @@ mostWords = 16384
 unfoldable pub build : ℕ → List ℕ → Built
 build room ws = cond (ltb mostWords (length ws)) (record { types = []; stopped = some tooLong }) (buildFrom room [] ws)
 
--- "It answers the count, or the number with the definition's index": as many definitions were accepted before it
+-- "It answers the count" .. "or the number with the definition's index": as many definitions were accepted before it
 abbrev pub answered : ℕ → Option ℕ → Answer ℕ
 answered n none = ok n
 answered n (some x) = refused x n

@@ -69,9 +69,9 @@ placement-cut m t n ws room =
     ∙ ap (λ (u : List ℕ). placementAnswer m u n (take 16385 ws) (min 16384 room)) (cut-twice t)
     ∙ placement-first m t n ws room
 
-pub reads-cut : (m : Memory) (t : List ℕ) (n : ℕ) (ws : List ℕ) (room : ℕ) → placementReads m (take 16384 t) n ws room ≡ placementReads m t n ws room
+pub placement-reads-cut : (m : Memory) (t : List ℕ) (n : ℕ) (ws : List ℕ) (room : ℕ) → placementReads m (take 16384 t) n ws room ≡ placementReads m t n ws room
 unfolding placementReads
-reads-cut m t n ws room = ap (λ (a : Answer Layout). reported a (rowsAmong ws)) (placement-cut m t n ws room)
+placement-reads-cut m t n ws room = ap (λ (a : Answer Layout). reported a (rowsAmong ws)) (placement-cut m t n ws room)
 
 pub offsets-cut : (m : Memory) (t : List ℕ) (n : ℕ) (ws out : List ℕ) → offsetsAfter m (take 16384 t) n ws out ≡ offsetsAfter m t n ws out
 offsets-cut m t n ws out =

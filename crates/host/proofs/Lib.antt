@@ -4,6 +4,7 @@ pub mod Packs
 pub mod Taken
 pub mod Several
 pub mod Unique
+pub mod Promises
 pub mod Decoded
 pub mod Builds
 pub mod Short

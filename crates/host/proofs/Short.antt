@@ -1,9 +1,9 @@
 -- No list among canon's answers has more than 17 types, and no placement an alignment above 8 or a size that is too large.
-use mathlib.Core.Path.{_≡_, refl, sym, ap, _∙_}
+use mathlib.Core.Path.{_≡_, refl, sym, _∙_}
 use mathlib.Core.Bool.{Bool, true, false, cond, _||_}
 use mathlib.Core.List.{List, [], _∷_}
 use mathlib.Core.Option.{Option, none, some}
-use Prim.Native.Nat.{ℕ, _^_, _≤_, _<_}
+use Prim.Native.Nat.{ℕ, _≤_}
 use native.Mathlib.Nat.{lt-of-lt-of-le, pow-le-pow-right}
 use native.Mathlib.Omega.{arith}
 use lib.Dec.{leb, ltb, lit≤, eqb}
@@ -11,26 +11,18 @@ use lib.ListN.{length, length-append}
 use borrow.Author.Tests.{leb-true, ltb-false}
 use Rattle.canon.specs.Answer.{Answer, ok, refused, then, unless, tooLong, badCount, noRoom, badRow}
 use Rattle.canon.specs.Flat.{ptrType}
-use Rattle.canon.specs.Layout.{Memory, Layout}
-use Rattle.canon.specs.Description.{built, buildAnswer}
-use Rattle.canon.specs.Cost.{buildReads, placementReads}
+use Rattle.canon.specs.Layout.{Memory}
 use Rattle.canon.specs.Row.{Info}
 use Rattle.canon.specs.Question.{read, infos, tooMany, noTable, ask, askTwo, Placing, placing, placementAnswer, layoutsIn}
 use Rattle.canon.specs.Signature.{listed, inMemory, flatAll, atMost, flattenAnswer, Side, liftingMax, paramsMax, startOf, asyncStartAnswer, behindPointer, listOrNone, returned, returnOf, asyncReturnAnswer}
 use Rattle.canon.specs.Types.{Core}
 use Rattle.canon.proofs.Packing.{pack-lt}
-use Rattle.canon.proofs.Built.{built-sound}
-use Rattle.canon.proofs.Cells.{room-fits}
-use Rattle.canon.proofs.Costs.{build-few, placement-few}
 use Rattle.canon.proofs.Questions.{infos-aligned, placing-reads, placing-starts}
 use Rattle.canon.proofs.Refusals.{placed-is}
 use Rattle.canon.proofs.Tightest.{greatestAlign-alignment}
 use Rattle.types.proofs.RoundLaws.{alignment-most}
 use Rattle.signature.specs.Packs.{packedList, packedFlat, packedFlattened, packedSignature, packedAnswer}
 use Rattle.signature.proofs.Maxima.{params-short, maximum-small}
-use Rattle.build.specs.Means.{accepted}
-use Rattle.build.proofs.Accepted.{accepted-types}
-use Rattle.host.specs.Numbers.{buildNumber, placementNumber}
 use Rattle.host.specs.Short.{ShortList, ShortFlat, ShortSignature, ShortLayout, IfAnswered}
 
 -- Whatever a question answers
@@ -82,19 +74,6 @@ placement-short m t n ws room = then-answers ShortLayout (placing m t n ws room)
         let aligned = infos-aligned m t n 0 ws (s .0) (s .1 .gives) in
         let same = placed-is (layoutsIn m (s .0)) p aligned (sym (placing-reads m (s .1)) ∙ e) in
         rw (← same .0) (alignment-most (greatestAlign-alignment (layoutsIn m (s .0)) aligned), same .1)
-
--- so an accepted number has nothing in the bits of a refusal
-pub placement-below :
-    (m : Memory) (t : List ℕ) (n : ℕ) (ws : List ℕ) (room : ℕ) (f : Layout) → placementAnswer m t n ws room ≡ ok f →
-    placementNumber (placementAnswer m t n ws room) (placementReads m t n ws room) < 2 ^ 56
-placement-below m t n ws room f e =
-    let short = rw e at (placement-short m t n ws room) in
-    rw e (omega (arith, placement-few m t n ws room, short .0, short .1))
-
-pub build-below : (ws t : List ℕ) (n : ℕ) → buildAnswer ws t ≡ ok n → buildNumber (buildAnswer ws t) (buildReads ws t) < 2 ^ 56
-build-below ws t n e =
-    let rows : n ≡ length (built ws t .types) = sym (ap accepted e) ∙ accepted-types ws t in
-    rw e (omega (arith, build-few ws t, rows, built-sound ws t .fits, room-fits (length t) .0))
 
 -- Lists
 

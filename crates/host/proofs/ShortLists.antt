@@ -121,9 +121,9 @@ module _ (p t : List ℕ) (m n : ℕ) (rows : capacity (length p) ≡ m) (there 
     counts-alike : (is′ : List Info) → infos (read t n) 0 ws ≡ ok is′ → rowsAmong us ≡ rowsAmong ws
     counts-alike is′ e = infos-rows p m mine 0 us is′ (named 0 ∙ e) ∙ sym (infos-rows t n there 0 ws is′ e)
 
-    pub reads-alike : (memory : Memory) (room : ℕ) → placementReads memory p m us (min 16 room) ≡ placementReads memory t n ws room
+    pub placement-reads-alike : (memory : Memory) (room : ℕ) → placementReads memory p m us (min 16 room) ≡ placementReads memory t n ws room
     unfolding placementReads placementAnswer then
-    reads-alike memory room = rw (placing-alike memory room) (go (placing memory t n ws room) refl)
+    placement-reads-alike memory room = rw (placing-alike memory room) (go (placing memory t n ws room) refl)
       where
         go : (a : Answer Placing) → placing memory t n ws room ≡ a → reported (then a (λ q. ok (q .layout))) (rowsAmong us) ≡ reported (then a (λ q. ok (q .layout))) (rowsAmong ws)
         go (refused x i) e = refl

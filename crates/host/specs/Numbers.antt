@@ -9,6 +9,9 @@ use Rattle.canon.specs.Answer.{Leaf, is, no, Answer, ok, refused}
 use Rattle.canon.specs.Layout.{Memory, mem32, mem64, Layout}
 use Rattle.canon.specs.Pack.{Packed}
 use Rattle.canon.specs.Row.{Abi, Info, countWord}
+use Rattle.canon.specs.Description.{buildAnswer}
+use Rattle.canon.specs.Question.{placementAnswer}
+use Rattle.canon.specs.Cost.{buildReads, placementReads}
 use Rattle.canon.specs.Signature.{Side}
 use Rattle.types.specs.Leaves.{Field, VariantAbi}
 use Rattle.signature.specs.Packs.{PackedSignature}
@@ -104,9 +107,17 @@ layoutNumber f = 2 ^ 32 * f .align + f .size
 abbrev pub buildNumber : Answer ℕ → ℕ → ℕ
 buildNumber a reads = answerNumber (λ n. 2 ^ 32 * reads + n) a
 
+-- of the words ws, into a table t
+abbrev pub buildCall : List ℕ → List ℕ → ℕ
+buildCall ws t = buildNumber (buildAnswer ws t) (buildReads ws t)
+
 -- a placement: "the size in bits 0 to 31, the alignment in bits 32 to 35, the rows read back in bits 40 to 55"
 abbrev pub placementNumber : Answer Layout → ℕ → ℕ
 placementNumber a reads = answerNumber (λ f. 2 ^ 40 * reads + layoutNumber f) a
+
+-- of the references ws to a table t of n rows, into a buffer of `room` words
+abbrev pub placementCall : Memory → List ℕ → ℕ → List ℕ → ℕ → ℕ
+placementCall m t n ws room = placementNumber (placementAnswer m t n ws room) (placementReads m t n ws room)
 
 -- a list: "the packed types in bits 0 to 33, two bits each and the first lowest, their count in bits 40 to 47"
 abbrev pub listNumber : Packed → ℕ

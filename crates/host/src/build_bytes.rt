@@ -4,10 +4,9 @@ ghost use mathlib.Core.Path.{_≡_};
 ghost use Prim.Native.Nat.{_*_, _/_, _≤_, min};
 ghost use lib.ListN.{length, take};
 ghost use Rattle.canon.specs.Table.{capacity};
-ghost use Rattle.canon.specs.Description.{buildAnswer, tableAfter};
-ghost use Rattle.canon.specs.Cost.{buildReads};
+ghost use Rattle.canon.specs.Description.{tableAfter};
 ghost use Rattle.words.specs.Words.{wholeWords, putWords};
-ghost use Rattle.host.specs.Numbers.{buildNumber};
+ghost use Rattle.host.specs.Numbers.{buildNumber, buildCall};
 ghost use Rattle.host.specs.Bytes.{buildBytes, readsOfBytes, tableBytes};
 ghost use Rattle.host.specs.Local.{withRows};
 use crate::packing::built_number;
@@ -37,7 +36,7 @@ const LOCAL_ROWS: usize = SHORT_WORDS / 2;
 const LOCAL_WORDS: usize = LOCAL_ROWS * ROW_WORDS;
 
 fn build_into(words: &[u32], table: &mut [u32], bytes: &mut [u8]) -> u64
-    ensures { λ r. ⌜ r ≡ buildNumber (buildAnswer (now (words .entry)) (now (table .entry))) (buildReads (now (words .entry)) (now (table .entry))) ⌝ }
+    ensures { λ r. ⌜ r ≡ buildCall (now (words .entry)) (now (table .entry)) ⌝ }
     ensures { λ _. ⌜ (now (table .exit) ≡ tableAfter (now (words .entry)) (now (table .entry))) × (length (now (table .exit)) ≡ length (now (table .entry))) ⌝ }
     ensures { λ _. ⌜ now (bytes .exit) ≡ putWords 0 (take (length (now (bytes .entry)) / 4) (now (table .exit))) (now (bytes .entry)) ⌝ }
 {
@@ -48,7 +47,7 @@ fn build_into(words: &[u32], table: &mut [u32], bytes: &mut [u8]) -> u64
 
 fn build_long(words: &[u8], table: &mut [u8]) -> u64
     requires { ⌜ (length (now words) ≤ 65536) × (length (now table) ≤ 65536) ⌝ }
-    ensures { λ r. ⌜ r ≡ buildNumber (buildAnswer (wholeWords (now (words .entry))) (wholeWords (now (table .entry)))) (buildReads (wholeWords (now (words .entry))) (wholeWords (now (table .entry)))) ⌝ }
+    ensures { λ r. ⌜ r ≡ buildCall (wholeWords (now (words .entry))) (wholeWords (now (table .entry))) ⌝ }
     ensures { λ _. ⌜ now (table .exit) ≡ putWords 0 (tableAfter (wholeWords (now (words .entry))) (wholeWords (now (table .entry)))) (now (table .entry)) ⌝ }
 {
     let mut ws = [0u32; MAX_WORDS];
@@ -70,7 +69,7 @@ fn give_rows(table: &[u32], rows: u32, bytes: &mut [u8])
 
 fn build_rows(words: &[u32], table: &mut [u32], bytes: &mut [u8]) -> u64
     requires { ⌜ (length (now words) ≤ 64) × (capacity (length (now table)) ≡ min 32 (capacity (length (now bytes) / 4))) ⌝ }
-    ensures { λ r. ⌜ r ≡ buildNumber (buildAnswer (now (words .entry)) (wholeWords (now (bytes .entry)))) (buildReads (now (words .entry)) (wholeWords (now (bytes .entry)))) ⌝ }
+    ensures { λ r. ⌜ r ≡ buildCall (now (words .entry)) (wholeWords (now (bytes .entry))) ⌝ }
     ensures { λ _. ⌜ now (bytes .exit) ≡ putWords 0 (tableAfter (now (words .entry)) (wholeWords (now (bytes .entry)))) (now (bytes .entry)) ⌝ }
 {
     let built = build(words, table);
@@ -92,7 +91,7 @@ fn local_words(bytes: &[u8]) -> usize
 
 fn build_short(words: &[u8], table: &mut [u8]) -> u64
     requires { ⌜ length (now words) ≤ 256 ⌝ }
-    ensures { λ r. ⌜ r ≡ buildNumber (buildAnswer (wholeWords (now (words .entry))) (wholeWords (now (table .entry)))) (buildReads (wholeWords (now (words .entry))) (wholeWords (now (table .entry)))) ⌝ }
+    ensures { λ r. ⌜ r ≡ buildCall (wholeWords (now (words .entry))) (wholeWords (now (table .entry))) ⌝ }
     ensures { λ _. ⌜ now (table .exit) ≡ putWords 0 (tableAfter (wholeWords (now (words .entry))) (wholeWords (now (table .entry)))) (now (table .entry)) ⌝ }
 {
     let mut ws = [0u32; SHORT_WORDS];

@@ -3,10 +3,9 @@
 ghost use mathlib.Core.Path.{_≡_};
 ghost use lib.ListN.{length, take};
 ghost use Prim.Native.Nat.{_/_, _≤_};
-ghost use Rattle.canon.specs.Cost.{placementReads};
-ghost use Rattle.canon.specs.Question.{typeAnswer, sizeAlignAnswer, placementAnswer, offsetsAfter};
+ghost use Rattle.canon.specs.Question.{typeAnswer, sizeAlignAnswer, offsetsAfter};
 ghost use Rattle.words.specs.Words.{wholeWords, putWords};
-ghost use Rattle.host.specs.Numbers.{memoryAt, answerNumber, chosen, typeWords, layoutNumber, placementNumber};
+ghost use Rattle.host.specs.Numbers.{memoryAt, answerNumber, chosen, typeWords, layoutNumber, placementCall};
 use crate::packing::refused;
 use crate::pick::PICKED_WORDS;
 use crate::pick::SHORT_LIST;
@@ -62,7 +61,7 @@ fn place_into(
     offsets: &mut [u32],
     bytes: &mut [u8],
 ) -> u64
-    ensures { λ r. ⌜ r ≡ placementNumber (placementAnswer (memoryAt memory) (now (table .entry)) rows (now (references .entry)) (length (now (offsets .entry)))) (placementReads (memoryAt memory) (now (table .entry)) rows (now (references .entry)) (length (now (offsets .entry)))) ⌝ }
+    ensures { λ r. ⌜ r ≡ placementCall (memoryAt memory) (now (table .entry)) rows (now (references .entry)) (length (now (offsets .entry))) ⌝ }
     ensures { λ _. ⌜ (now (offsets .exit) ≡ offsetsAfter (memoryAt memory) (now (table .entry)) rows (now (references .entry)) (now (offsets .entry))) × (length (now (offsets .exit)) ≡ length (now (offsets .entry))) ⌝ }
     ensures { λ _. ⌜ now (bytes .exit) ≡ putWords 0 (take (length (now (bytes .entry)) / 4) (now (offsets .exit))) (now (bytes .entry)) ⌝ }
 {
@@ -73,7 +72,7 @@ fn place_into(
 
 // No offset stands beyond the word 16,384 of a buffer.
 fn place_whole(memory: u32, table: &[u8], rows: u32, references: &[u8], offsets: &mut [u8]) -> u64
-    ensures { λ r. ⌜ r ≡ placementNumber (placementAnswer (memoryAt memory) (wholeWords (now (table .entry))) rows (wholeWords (now (references .entry))) (length (wholeWords (now (offsets .entry))))) (placementReads (memoryAt memory) (wholeWords (now (table .entry))) rows (wholeWords (now (references .entry))) (length (wholeWords (now (offsets .entry))))) ⌝ }
+    ensures { λ r. ⌜ r ≡ placementCall (memoryAt memory) (wholeWords (now (table .entry))) rows (wholeWords (now (references .entry))) (length (wholeWords (now (offsets .entry)))) ⌝ }
     ensures { λ _. ⌜ now (offsets .exit) ≡ putWords 0 (offsetsAfter (memoryAt memory) (wholeWords (now (table .entry))) rows (wholeWords (now (references .entry))) (wholeWords (now (offsets .entry)))) (now (offsets .entry)) ⌝ }
 {
     let mut ts = [0u32; TABLE_WORDS];
@@ -95,7 +94,7 @@ fn place_whole(memory: u32, table: &[u8], rows: u32, references: &[u8], offsets:
 // No offset stands beyond the word 16 of a buffer.
 fn place_picked(memory: u32, table: &[u8], rows: u32, references: &[u8], offsets: &mut [u8]) -> u64
     requires { ⌜ length (now references) / 4 ≤ 16 ⌝ }
-    ensures { λ r. ⌜ r ≡ placementNumber (placementAnswer (memoryAt memory) (wholeWords (now (table .entry))) rows (wholeWords (now (references .entry))) (length (wholeWords (now (offsets .entry))))) (placementReads (memoryAt memory) (wholeWords (now (table .entry))) rows (wholeWords (now (references .entry))) (length (wholeWords (now (offsets .entry))))) ⌝ }
+    ensures { λ r. ⌜ r ≡ placementCall (memoryAt memory) (wholeWords (now (table .entry))) rows (wholeWords (now (references .entry))) (length (wholeWords (now (offsets .entry)))) ⌝ }
     ensures { λ _. ⌜ now (offsets .exit) ≡ putWords 0 (offsetsAfter (memoryAt memory) (wholeWords (now (table .entry))) rows (wholeWords (now (references .entry))) (wholeWords (now (offsets .entry)))) (now (offsets .entry)) ⌝ }
 {
     if no_rows(table, rows) {
@@ -125,7 +124,7 @@ pub extern "C" fn lampughjata_placement_bytes(
     references: &[u8],
     offsets: &mut [u8],
 ) -> u64
-    ensures { λ r. ⌜ r ≡ placementNumber (placementAnswer (memoryAt memory) (wholeWords (now (table .entry))) rows (wholeWords (now (references .entry))) (length (wholeWords (now (offsets .entry))))) (placementReads (memoryAt memory) (wholeWords (now (table .entry))) rows (wholeWords (now (references .entry))) (length (wholeWords (now (offsets .entry))))) ⌝ }
+    ensures { λ r. ⌜ r ≡ placementCall (memoryAt memory) (wholeWords (now (table .entry))) rows (wholeWords (now (references .entry))) (length (wholeWords (now (offsets .entry)))) ⌝ }
     ensures { λ _. ⌜ now (offsets .exit) ≡ putWords 0 (offsetsAfter (memoryAt memory) (wholeWords (now (table .entry))) rows (wholeWords (now (references .entry))) (wholeWords (now (offsets .entry)))) (now (offsets .entry)) ⌝ }
 {
     if table.len() > TABLE_BYTES {

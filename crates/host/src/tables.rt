@@ -1,10 +1,9 @@
 // These calls build a table and ask it for types and layouts, over words. Of a bad reference BadRef comes before BadRow.
 ghost use mathlib.Core.Path.{_≡_};
 ghost use lib.ListN.{length};
-ghost use Rattle.canon.specs.Description.{buildAnswer, tableAfter};
-ghost use Rattle.canon.specs.Cost.{buildReads, placementReads};
-ghost use Rattle.canon.specs.Question.{typeAnswer, sizeAlignAnswer, placementAnswer, offsetsAfter};
-ghost use Rattle.host.specs.Numbers.{memoryAt, answerNumber, chosen, typeWords, layoutNumber, buildNumber, placementNumber};
+ghost use Rattle.canon.specs.Description.{tableAfter};
+ghost use Rattle.canon.specs.Question.{typeAnswer, sizeAlignAnswer, offsetsAfter};
+ghost use Rattle.host.specs.Numbers.{memoryAt, answerNumber, chosen, typeWords, layoutNumber, buildCall, placementCall};
 use crate::given::memory_at;
 use crate::packing::built_number;
 use crate::packing::layout_number;
@@ -17,7 +16,7 @@ use questions::size_align;
 // Refuses TooLong; then for each definition NoRoom, BadKind, Truncated, BadCount, BadRef, TooDeep, TooLarge in either memory.
 #[no_mangle]
 pub extern "C" fn lampughjata_build(words: &[u32], table: &mut [u32]) -> u64
-    ensures { λ r. ⌜ r ≡ buildNumber (buildAnswer (now (words .entry)) (now (table .entry))) (buildReads (now (words .entry)) (now (table .entry))) ⌝ }
+    ensures { λ r. ⌜ r ≡ buildCall (now (words .entry)) (now (table .entry)) ⌝ }
     ensures { λ _. ⌜ now (table .exit) ≡ tableAfter (now (words .entry)) (now (table .entry)) ⌝ }
 {
     built_number(build::build(words, table))
@@ -53,7 +52,7 @@ pub extern "C" fn lampughjata_placement(
     references: &[u32],
     offsets: &mut [u32],
 ) -> u64
-    ensures { λ r. ⌜ r ≡ placementNumber (placementAnswer (memoryAt memory) (now (table .entry)) rows (now (references .entry)) (length (now (offsets .entry)))) (placementReads (memoryAt memory) (now (table .entry)) rows (now (references .entry)) (length (now (offsets .entry)))) ⌝ }
+    ensures { λ r. ⌜ r ≡ placementCall (memoryAt memory) (now (table .entry)) rows (now (references .entry)) (length (now (offsets .entry))) ⌝ }
     ensures { λ _. ⌜ now (offsets .exit) ≡ offsetsAfter (memoryAt memory) (now (table .entry)) rows (now (references .entry)) (now (offsets .entry)) ⌝ }
 {
     placement_number(placement(memory_at(memory), table, rows, references, offsets))

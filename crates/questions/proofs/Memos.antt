@@ -1,24 +1,21 @@
 -- The memo of a placement: what it holds is what references give, and a reference that gives a layout has its place there.
 use mathlib.Core.Path.{_≡_, refl, sym, ap, _∙_}
-use mathlib.Core.Bool.{Bool, true, false, cond}
+use mathlib.Core.Bool.{Bool, true, false}
 use mathlib.Core.List.{List, [], _∷_, _++_, append-assoc}
-use Prim.Native.Nat.{ℕ, zero, suc, _+_, _*_, _-_, _≤_, _<_}
+use Prim.Native.Nat.{ℕ, zero, suc, _+_, _*_, _-_, _<_}
 use native.Mathlib.Numerals.{add-one}
 use native.Mathlib.Omega.{arith}
 use lib.Arith.{digits-div, digits-mod}
-use lib.Dec.{leb, ltb, eqb}
-use lib.ListN.{length, getD, getElem?, take, drop, set, replicate}
+use lib.Dec.{eqb}
+use lib.ListN.{length, getD, take, drop, set, replicate}
 use lib.Seq.{getD-set-same, getD-set-other, drop-cons, set-at}
-use borrow.Author.Tests.{ltb-true, leb-false, eqb-true, eqb-false}
-use Rattle.canon.specs.Answer.{Leaf, is, no, Answer, ok, refused, atPosition, then, andThen, unless, badRef, badRow}
+use borrow.Author.Tests.{eqb-true, eqb-false}
+use Rattle.canon.specs.Answer.{Leaf, is, no, Answer, ok, refused, atPosition, then, andThen, unless, badRow}
 use Rattle.canon.specs.Layout.{Memory, Layout}
 use Rattle.canon.specs.Row.{Info, infoLayout}
-use Rattle.canon.specs.Types.{plain}
-use Rattle.canon.specs.Table.{rowAt}
-use Rattle.canon.specs.Question.{plainInfo, readRow, read, infos, noTable, typeAnswer, sizeAlignAnswer, layoutsIn}
+use Rattle.canon.specs.Question.{read, infos, noTable, typeAnswer, sizeAlignAnswer, layoutsIn}
 use Rattle.canon.proofs.Tests.{impossible}
-use Rattle.canon.proofs.Cells.{rows-most}
-use Rattle.canon.proofs.Questions.{read-aligned}
+use Rattle.canon.proofs.Questions.{read-aligned, read-below}
 use Rattle.canon.proofs.Rounding.{Alignment, alignment-pos}
 use Rattle.canon.proofs.Tightest.{Aligned}
 use Rattle.canon.specs.Placement.{fourGiB}
@@ -58,21 +55,6 @@ at-no : {A : Type 0} (l : Leaf A) (x p : ℕ) → refused x p ≡ atPosition 0 l
 unfolding atPosition
 at-no (is b) x p e = impossible (cc)
 at-no (no y) x p e = let q : x ≡ y = cc in rw q
-
--- a reference that gives something is below 1088: 64, and a row for each of 1,024
-read-below : (t : List ℕ) (n w : ℕ) (i : Info) → noTable t n ≡ false → read t n w ≡ is i → w < 1088
-unfolding read
-read-below t n w i e h = go (leb 64 w) (ltb (w - 64) n) refl refl h
-  where
-    few : n ≤ 1024
-    few = rows-most t n e
-
-    go :
-        (b c : Bool) → leb 64 w ≡ b → ltb (w - 64) n ≡ c →
-        cond b (cond c (readRow (rowAt t (w - 64))) (no badRef)) (plainInfo (getElem? plain w)) ≡ is i → w < 1088
-    go true true p q h = omega (arith, ltb-true (w - 64) n q, few)
-    go true false p q h = impossible (cc)
-    go false c p q h = omega (arith, leb-false 64 w p)
 
 -- a layout that is answered is the reference's, which has its place in the memo, and its alignment is not 0
 module _ (m : Memory) (t : List ℕ) (n w : ℕ) (there : noTable t n ≡ false) where

@@ -19,13 +19,13 @@ use Rattle.canon.specs.Layout.{mem32, mem64, layout}
 use Rattle.canon.specs.Row.{Info, infoOf}
 use Rattle.canon.specs.Description.{reference, built, tableAfter}
 use Rattle.canon.specs.Question.{ask, typeAnswer, sizeAlignAnswer, layoutsIn, Placing, placed, placing, placementAnswer, bufferAfter, offsetsAfter}
-use Rattle.canon.specs.Placement.{NoPlacement, NoneLater}
-use Rattle.canon.specs.Cost.{rowsAmong, reported, placementReads}
-use Rattle.canon.proofs.Costs.{placement-within}
+use Rattle.canon.specs.Placement.{Every, NoPlacement, NoneLater}
+use Rattle.canon.specs.Cost.{isRow, rowsAmong, reported, placementReads}
+use Rattle.canon.proofs.Costs.{placement-within, isEarlier, infos-named}
 use Rattle.canon.proofs.Wider.{_≼_}
 use Rattle.canon.proofs.Tests.{impossible}
 use Rattle.canon.proofs.Refusals.{Tightest}
-use Rattle.canon.proofs.Questions.{Reads, placing-six, placing-tightest, Names, type-built, ask-built, layouts-typed, flatTypes, flats-typed}
+use Rattle.canon.proofs.Questions.{Reads, placing-starts, placing-six, placing-tightest, Names, type-built, ask-built, layouts-typed, flatTypes, flats-typed}
 use Rattle.canon.proofs.Questions.{borrowTypes, borrows-typed, offsets-length, offsets-written, offsets-begin, Beside, beside-accepted, beside-refused, placing-beside}
 use Rattle.types.specs.Means.{numberOf, memoryOf, layoutMeans}
 use Rattle.types.specs.declared.refusal.Refusal.{Refusal}
@@ -177,6 +177,14 @@ module _
     pub placement-reads-are : (f : canon.Layout) → placementMeans r ≡ ok f → wholeReads r ≡ rowsAmong (now refs)
     unfolding placementReads
     placement-reads-are f e = promise .1 .1 ∙ ap (λ (a : Answer canon.Layout). reported a (rowsAmong (now refs))) (sym (promise .0) ∙ e)
+
+    -- of each of them, it is of this form exactly when it names one of the rows
+    pub placement-reads-named : (f : canon.Layout) → placementMeans r ≡ ok f → Every (λ v. isRow v ≡ isEarlier n v) (now refs)
+    unfolding placementAnswer
+    placement-reads-named f e =
+        let p = answered (placing (memoryOf m) (now t) n (now refs) (length (now o))) f (now o) _ (sym e ∙ promise .0) refl in
+        let s = placing-starts (memoryOf m) (now t) n (now refs) (length (now o)) _ (p .1) in
+        infos-named (now t) n (s .1 .table) 0 (now refs) (s .0) (s .1 .gives)
 
     pub placement-reads-within : wholeReads r ≤ length (now refs)
     placement-reads-within = rw (promise .1 .1) (placement-within (memoryOf m) (now t) n (now refs) (length (now o)))

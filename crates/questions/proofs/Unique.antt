@@ -54,11 +54,11 @@ unfolding typeAnswerOf
 type-back (type.Info i) = ap type.Info (type-info-back i)
 type-back (type.Refused x p) = ap (λ (y : Refusal). type.Refused y p) (refusal-back x)
 
-pub layoutAnswerOf : Answer canon.Layout → LayoutAnswer
+layoutAnswerOf : Answer canon.Layout → LayoutAnswer
 layoutAnswerOf (ok f) = layout.Layout (record { size = f .size; align = f .align })
 layoutAnswerOf (refused x p) = layout.Refused (refusalOf x) (record { 0 = p })
 
-pub layout-back : (r : LayoutAnswer) → layoutAnswerOf (layoutAnswerMeans r) ≡ r
+layout-back : (r : LayoutAnswer) → layoutAnswerOf (layoutAnswerMeans r) ≡ r
 unfolding layoutAnswerOf
 layout-back (layout.Layout f) = refl
 layout-back (layout.Refused x p) = ap (λ (y : Refusal). layout.Refused y p) (refusal-back x)

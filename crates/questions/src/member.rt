@@ -105,7 +105,8 @@ pub(crate) fn memo_layout(word: u64) -> Layout
     }
 }
 
-// Counts the row of a reference that was looked up, in the table or in the memo. A call of read_member here would take that out of the placement's loop.
+// Counts the row of a reference that was looked up, in the table or in the memo. recall does not call read_member, since the compiler would then no
+// longer put that into the loop of fill.
 fn reads_of(reference: u32) -> u32
     ensures { λ r. ⌜ r ≡ cond (leb 64 reference) 1 0 ⌝ }
 {

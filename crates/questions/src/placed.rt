@@ -60,13 +60,13 @@ impl Placed {
         if extent.is_large() {
             return PlacementAnswer::Refused(Refusal::TooLarge, over);
         }
-        let whole = extent.close();
-        if whole.is_large() {
+        let closed = extent.close();
+        if closed.is_large() {
             return PlacementAnswer::Refused(Refusal::TooLarge, MemberPosition(0));
         }
         let layout = Layout {
-            size: whole.end as u32,
-            align: whole.align,
+            size: closed.end as u32,
+            align: closed.align,
         };
         PlacementAnswer::Whole(Whole { reads, layout })
     }

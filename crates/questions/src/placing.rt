@@ -43,10 +43,10 @@ fn fill(
     let mut k: usize = 0;
     while k < references.len() {
         match read_member(memory, table, n, references[k], reads) {
-            Member::Layout(layout, more) => {
+            Member::Layout(layout, so_far) => {
                 placed = placed.next(layout, MemberPosition(k as u32));
                 stage[k] = placed.offset;
-                reads = more;
+                reads = so_far;
             }
             Member::Refused(why) => return PlacementAnswer::Refused(why, MemberPosition(k as u32)),
         }
@@ -103,9 +103,9 @@ fn judge(
     let mut k: usize = 0;
     while k < references.len() {
         match recall(memory, table, n, references[k], memo, reads) {
-            Member::Layout(layout, more) => {
+            Member::Layout(layout, so_far) => {
                 placed = placed.next(layout, MemberPosition(k as u32));
-                reads = more;
+                reads = so_far;
             }
             Member::Refused(why) => return PlacementAnswer::Refused(why, MemberPosition(k as u32)),
         }

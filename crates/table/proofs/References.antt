@@ -25,15 +25,15 @@ use Rattle.table.specs.declared.info.Info.{Info}
 
 -- a scalar of n bytes, in either memory
 
+in-both : (k n : ℕ) → ((m : Memory) → mapOption (layout m) (getElem? plain k) ≡ some (square n)) → PlainLayouts k (record { in32 = square n; in64 = square n })
+in-both k n e mem32 = e mem32
+in-both k n e mem64 = e mem64
+
 abbrev Sized : ℕ → ℕ → Type 0
 Sized n k = ((m : Memory) → mapOption (layout m) (getElem? plain k) ≡ some (square n)) × (mapOption flatCount (getElem? plain k) ≡ some (some 1))
 
 pub as-wide : (k n : ℕ) → Sized n k → Plain k (record { layouts = record { in32 = square n; in64 = square n }; flats = some 1 })
-as-wide k n e = (wide, e .1)
-  where
-    wide : (m : Memory) → mapOption (layout m) (getElem? plain k) ≡ some (within m (record { in32 = square n; in64 = square n }))
-    wide mem32 = e .0 mem32
-    wide mem64 = e .0 mem64
+as-wide k n e = (in-both k n (e .0), e .1)
 
 -- the scalars of one, two and eight bytes and String have their own arm; every other one has four
 
@@ -58,14 +58,9 @@ halved k = 8 / 2 ^ (halvings / 2 ^ (2 * k) % 4)
 
 pub halved-is : (k : ℕ) → k ≤ 17 → eqb k 12 ≡ false → PlainLayouts k (record { in32 = square (halved k); in64 = square (halved k) })
 unfolding layout
-halved-is k h e = wide
-  where
-    sized : (m : Memory) → mapOption (layout m) (getElem? plain k) ≡ some (square (halved k))
-    sized m = rw e at (same-below 18 (λ i. cond (eqb i 12) none (mapOption (layout m) (getElem? plain i))) (λ i. cond (eqb i 12) none (some (square (halved i)))) refl k (omega arith))
-
-    wide : (m : Memory) → mapOption (layout m) (getElem? plain k) ≡ some (within m (record { in32 = square (halved k); in64 = square (halved k) }))
-    wide mem32 = sized mem32
-    wide mem64 = sized mem64
+halved-is k h e =
+    in-both k (halved k)
+    (λ m. rw e at (same-below 18 (λ i. cond (eqb i 12) none (mapOption (layout m) (getElem? plain i))) (λ i. cond (eqb i 12) none (some (square (halved i)))) refl k (omega arith)))
 
 -- only Borrow is a borrow, and none goes deep
 reached : (k : ℕ) → k ≤ 17 → mapOption reach (getElem? plain k) ≡ some (record { borrow = eqb k 14; depth = 0 })

@@ -19,9 +19,14 @@ pub enum Found {
     BadRef,
 }
 
+const STRING: u32 = 12;
+
 const BORROW: u32 = 14;
 
 const LAST: u32 = 17;
+
+// How often 8 is halved to the size of each reference: two bits for each, that of 0 last.
+const HALVINGS: u64 = 0b01_01_01_01_01_00_01_00_01_00_00_01_01_10_10_11_11_11;
 
 fn abi(reference: u32) -> CanonicalAbiInfo
     requires { ⌜ reference ≤ 17 ⌝ }
@@ -50,11 +55,6 @@ fn reach(reference: u32) -> Reach
         Reach::NONE
     }
 }
-
-const STRING: u32 = 12;
-
-// How often 8 is halved to the size of each reference: two bits for each, that of 0 last.
-const HALVINGS: u64 = 0b01_01_01_01_01_00_01_00_01_00_00_01_01_10_10_11_11_11;
 
 fn layouts(reference: u32) -> Layouts
     requires { ⌜ reference ≤ 17 ⌝ }

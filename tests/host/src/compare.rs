@@ -92,10 +92,12 @@ impl Run {
         Built { answer, subject }
     }
 
-    /// Builds in a buffer of so many words; port against model alone.
-    pub fn build_in(&mut self, words: &[u32], room: usize) {
+    /// Builds in a buffer of so many words; port against model alone. Hands the model's answer back.
+    pub fn build_in(&mut self, words: &[u32], room: usize) -> u64 {
         let model = self.model_build(words, room);
+        let said = model.answer;
         self.port_build(words, model);
+        said
     }
 
     fn model_build(&mut self, words: &[u32], room: usize) -> ModelBuild {
@@ -429,8 +431,7 @@ fn judge_port(tally: &mut Tally, fault: Option<Fault>, mut answered: Answered) {
     Fault::after(fault, &mut answered);
     let said = answered.expected_answer;
     let same = answered.answer == said && answered.after == answered.expected_after;
-    let reads = answered.call.function.reads();
-    tally.read_back += u64::from(reads.is_some_and(|reads| reads.of(said) > 0));
+    tally.read_back += u64::from(answered.call.function.has_read(said));
     tally.coverage.asked(&answered.call, said);
     tally.answer(same, answered.call.cell == Cell::Byte, || {
         let (call, answer) = (&answered.call, answered.answer);

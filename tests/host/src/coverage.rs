@@ -33,12 +33,12 @@ const REFUSALS: [(Function, &[u64]); 21] = [
 /// The most numbers that a call's k chooses from, and one more for a k above the last.
 const CHOICES: usize = 10;
 
-/// The bit of an answer that reports a row read back.
-const READ_BACK: u64 = 15;
+/// The outcome of an answer that reports a row read back: a number that is no refusal's.
+const READ_BACK: u64 = 31;
 
 /// By function, cell and choice, one bit for each outcome: bit 0 for an answer, bit r for refusal r, and
-/// the bit above.
-pub struct Coverage([[[u16; CHOICES]; 2]; REFUSALS.len()]);
+/// `READ_BACK`.
+pub struct Coverage([[[u32; CHOICES]; 2]; REFUSALS.len()]);
 
 impl Coverage {
     pub fn new() -> Coverage {
@@ -52,11 +52,7 @@ impl Coverage {
         };
         let seen = &mut self.0[call.function as usize][call.cell as usize];
         seen[chosen as usize] |= 1 << encode::refusal(answer);
-        if call
-            .function
-            .reads()
-            .is_some_and(|reads| reads.of(answer) > 0)
-        {
+        if call.function.has_read(answer) {
             seen[chosen as usize] |= 1 << READ_BACK;
         }
     }
@@ -76,11 +72,20 @@ impl Coverage {
                     let outcomes = refusals.iter().copied().chain([0]).chain(reported);
                     let unseen = outcomes.filter(|outcome| seen & 1 << *outcome == 0);
                     missing.extend(unseen.map(|outcome| {
-                        format!("{function:?} over {cell:?}s, k {k}, outcome {outcome}")
+                        let what = name(outcome);
+                        format!("{function:?} over {cell:?}s, k {k}: {what}")
                     }));
                 }
             }
         }
         missing
+    }
+}
+
+fn name(outcome: u64) -> String {
+    match outcome {
+        0 => "an answer".to_string(),
+        READ_BACK => "rows read back".to_string(),
+        number => format!("refusal {number}"),
     }
 }

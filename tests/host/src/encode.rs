@@ -23,12 +23,12 @@ pub fn accepted(answer: u64) -> u64 {
 
 /// The bits of an answer, from this one to bit 55, that report how many rows were read back (order 6).
 #[derive(Clone, Copy)]
-pub struct Reads(u32);
+pub struct ReadsBits(u32);
 
-pub const BUILD_READS: Reads = Reads(32);
-pub const PLACEMENT_READS: Reads = Reads(40);
+pub const BUILD_READS: ReadsBits = ReadsBits(32);
+pub const PLACEMENT_READS: ReadsBits = ReadsBits(40);
 
-impl Reads {
+impl ReadsBits {
     /// The number; 0 in a refusal, which has nothing in these bits.
     pub fn of(self, answer: u64) -> u64 {
         (answer & self.bits()) >> self.0

@@ -3,7 +3,7 @@
 use crate::compare::{GUARD, bytes_of};
 use crate::encode;
 use crate::model::{
-    self, BY_MEMORY, Definition, MOST_WORDS, ROW, Row, capacity, put_row, words_of,
+    self, BY_MEMORY, Definition, MOST_WORDS, ROW, Row, capacity, number, put_row, words_of,
 };
 use crate::port::{Answered, Call, Cell, Function};
 use crate::reading;
@@ -61,8 +61,10 @@ pub enum Fault {
     CountRead,
     /// A placement counts a definition once, however often its references name it.
     RepeatOnce,
-    /// A refused build or placement reports what it read back before.
-    RefusedReads,
+    /// A refused build reports what it read back before.
+    RefusedBuild,
+    /// A refused placement does.
+    RefusedPlacement,
     /// The port's built rows have the memories exchanged, after the comparison, so that they agree with the model.
     PortMemories,
     /// The same of the original's.
@@ -73,7 +75,7 @@ pub enum Fault {
     OriginalList,
 }
 
-pub const FAULTS: [Fault; 29] = [
+pub const FAULTS: [Fault; 30] = [
     Fault::OffsetOneOff,
     Fault::PositionOneOff,
     Fault::TableWord,
@@ -98,7 +100,8 @@ pub const FAULTS: [Fault; 29] = [
     Fault::MarkRead,
     Fault::CountRead,
     Fault::RepeatOnce,
-    Fault::RefusedReads,
+    Fault::RefusedBuild,
+    Fault::RefusedPlacement,
     Fault::PortMemories,
     Fault::OriginalMemories,
     Fault::OriginalSize,
@@ -203,28 +206,23 @@ impl Fault {
             return;
         };
         let is_refused = encode::refusal(*answer) != 0;
-        if is_refused != (self == Fault::RefusedReads) {
+        if is_refused != matches!(self, Fault::RefusedBuild | Fault::RefusedPlacement) {
             return;
         }
         let due = reads.of(*answer);
-        let description = words_of(call.slices[0]);
-        let built = || reading::definitions(&description, encode::accepted(*answer) as usize);
+        let [first, second, ..] = call.slices;
         let number = match (self, call.function) {
             (Fault::OneReadMore, _) => due + 1,
-            (Fault::MarkRead, Function::Build) => due + built().iter().map(marks).sum::<u64>(),
-            (Fault::CountRead, Function::Build) => named_by(&description).count() as u64,
+            (Fault::MarkRead, Function::Build) => due + over_built(first, *answer, marks),
+            (Fault::CountRead, Function::Build) => named_by(&words_of(first)).count() as u64,
             (Fault::RepeatOnce, Function::Placement) => {
-                let references = words_of(call.slices[1]);
-                named_by(&references).collect::<HashSet<_>>().len() as u64
+                named_by(&words_of(second)).collect::<HashSet<_>>().len() as u64
             }
-            (Fault::RefusedReads, Function::Build) => built()
-                .iter()
-                .map(|definition| definition.earlier().count() as u64)
-                .sum(),
-            (Fault::RefusedReads, Function::Placement) => {
-                let references = words_of(call.slices[1]);
-                let before = encode::accepted(*answer) as usize;
-                named_by(&references[..before.min(references.len())]).count() as u64
+            (Fault::RefusedBuild, Function::Build) => over_built(first, *answer, rows_named),
+            (Fault::RefusedPlacement, Function::Placement) => {
+                let mut references = words_of(second);
+                references.truncate(references_read(*answer));
+                named_by(&references).count() as u64
             }
             _ => return,
         };
@@ -319,10 +317,31 @@ fn over_entry(definition: &Definition, before: &[u32]) -> u32 {
     1 + entry + deepest.unwrap_or(0)
 }
 
+/// The sum over the definitions that a build accepted, by its description and its answer.
+fn over_built(description: &[u8], answer: u64, of_one: fn(&Definition) -> usize) -> u64 {
+    let words = words_of(description);
+    let built = reading::definitions(&words, encode::accepted(answer) as usize);
+    built.iter().map(of_one).sum::<usize>() as u64
+}
+
 /// How many no-payload marks a definition has.
-fn marks(definition: &Definition) -> u64 {
+fn marks(definition: &Definition) -> usize {
     let places = definition.references_and_marks().len();
-    (places - definition.references().count()) as u64
+    places - definition.references().count()
+}
+
+/// How many of its references name a row.
+fn rows_named(definition: &Definition) -> usize {
+    definition.earlier().count()
+}
+
+/// How many references a placement had read when it was refused: all before TooLarge, else those before the
+/// position.
+fn references_read(answer: u64) -> usize {
+    match encode::refusal(answer) {
+        number::TOO_LARGE => usize::MAX,
+        _ => answer as u32 as usize,
+    }
 }
 
 /// The words that would name a definition if each were a reference.

@@ -2,7 +2,7 @@
 pub use crate::calls::WRITTEN;
 use crate::calls::{Leaf, Question};
 use crate::compare::GUARD;
-use crate::encode::{BUILD_READS, PLACEMENT_READS, Reads};
+use crate::encode::{BUILD_READS, PLACEMENT_READS, ReadsBits};
 use std::fmt;
 use std::ops::Range;
 
@@ -45,12 +45,17 @@ impl Function {
     }
 
     /// Where it reports the rows that it read back, if it does.
-    pub fn reads(self) -> Option<Reads> {
+    pub fn reads(self) -> Option<ReadsBits> {
         match self {
             Function::Build => Some(BUILD_READS),
             Function::Placement => Some(PLACEMENT_READS),
             _ => None,
         }
+    }
+
+    /// Whether an answer of it reports a row.
+    pub fn has_read(self, answer: u64) -> bool {
+        self.reads().is_some_and(|reads| reads.of(answer) > 0)
     }
 
     /// Of a function that answers one of several numbers: which of its own numbers is the k that

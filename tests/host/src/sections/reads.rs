@@ -119,8 +119,8 @@ fn numbers_of_members(run: &mut Run) {
     }
 }
 
-/// No accepted description has more references of the form 64+j than 16,380: it has one definition before them, and two
-/// words at the head of the other.
+/// No accepted description has more references of the form 64+j than 16,380: it has one definition before
+/// them, and two words at the head of the other.
 fn most_reads(run: &mut Run) {
     let most = MOST_WORDS - 4;
     for kind in [1, 2, 4] {
@@ -264,8 +264,7 @@ fn report(run: &mut Run, words: &[u32], due: Answer<(u64, u64)>) {
 
 /// The same in a table with room for so many rows; not put to the original.
 fn report_in(run: &mut Run, words: &[u32], rows: usize, due: Answer<(u64, u64)>) {
-    run.build_in(words, ROW * rows);
-    let said = encode::answer(model::build(words, &mut vec![0; ROW * rows]));
+    let said = run.build_in(words, ROW * rows);
     report_is(run, words, said, due);
 }
 

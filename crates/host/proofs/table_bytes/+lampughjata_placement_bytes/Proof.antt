@@ -9,7 +9,7 @@ use lib.Seq.{length-take-le}
 use Rattle.words.specs.Words.{wholeWords, putWords}
 use Rattle.host.specs.Numbers.{memoryAt, placementNumber}
 use Rattle.words.proofs.Laws.{whole-take}
-use Rattle.host.proofs.Decoded.{placement-cut, reads-cut, offsets-cut}
+use Rattle.host.proofs.Decoded.{placement-cut, placement-reads-cut, offsets-cut}
 use borrow.Author.Needs.{needs}
 use borrow.Fn.Kinds.{In}
 use borrow.Fn.PlainCycle.{Measures, is, falls, and}
@@ -67,7 +67,7 @@ module _ (t : ℕ) where
       let a = c .before .before .before .before .before .before .before .before .before .args in
       let self = c .before .before .lampughjata-placement-bytes .ensures in
       let cut = whole-take 16384 (now (a .table)) in (
-        self .0 ∙ rw cut (ap₂ placementNumber (placement-cut (memoryAt (a .memory)) (wholeWords (now (a .table))) (a .rows) (wholeWords (now (a .references))) (length (wholeWords (now (a .offsets))))) (reads-cut (memoryAt (a .memory)) (wholeWords (now (a .table))) (a .rows) (wholeWords (now (a .references))) (length (wholeWords (now (a .offsets)))))),
+        self .0 ∙ rw cut (ap₂ placementNumber (placement-cut (memoryAt (a .memory)) (wholeWords (now (a .table))) (a .rows) (wholeWords (now (a .references))) (length (wholeWords (now (a .offsets))))) (placement-reads-cut (memoryAt (a .memory)) (wholeWords (now (a .table))) (a .rows) (wholeWords (now (a .references))) (length (wholeWords (now (a .offsets)))))),
         self .1 ∙ rw cut (ap (λ (ws : List ℕ). putWords 0 ws (now (a .offsets))) (offsets-cut (memoryAt (a .memory)) (wholeWords (now (a .table))) (a .rows) (wholeWords (now (a .references))) (wholeWords (now (a .offsets))))),
       )
 

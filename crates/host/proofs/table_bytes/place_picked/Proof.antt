@@ -10,7 +10,7 @@ use Rattle.canon.specs.Question.{placementAnswer, bufferAfter, offsetsAfter}
 use Rattle.words.specs.Words.{wholeWords}
 use Rattle.words.proofs.Laws.{length-whole, put-same}
 use Rattle.host.specs.Numbers.{memoryAt, placementNumber}
-use Rattle.host.proofs.ShortLists.{room-16, placing-missing, placement-alike, reads-alike, offsets-alike}
+use Rattle.host.proofs.ShortLists.{room-16, placing-missing, placement-alike, placement-reads-alike, offsets-alike}
 use Rattle.host.proofs.Decoded.{front, front-put}
 use borrow.Author.Needs.{needs}
 use Rattle.host.proofs.table_bytes.place_picked.Statement.{statement}
@@ -86,7 +86,7 @@ returns-2 c =
     let into = c .before .before .before .place-into in
     let out = front _ _ 16 (search needs) (buffer .ensures .0) (buffer .ensures .1) in
     let few : length ws ≤ 16 = omega (arith, p, length-whole (now (a .references))) in (
-      into .ensures .0 ∙ rw (out, length-take 16 (wholeWords (now (a .offsets)))) (ap₂ placementNumber (placement-alike _ t 16 (a .rows) (rw (picks .1 .1 .size) room-16) there _ _ ws (picks .1 .0) few (memoryAt (a .memory)) (length (wholeWords (now (a .offsets))))) (reads-alike _ t 16 (a .rows) (rw (picks .1 .1 .size) room-16) there _ _ ws (picks .1 .0) few (memoryAt (a .memory)) (length (wholeWords (now (a .offsets)))))),
+      into .ensures .0 ∙ rw (out, length-take 16 (wholeWords (now (a .offsets)))) (ap₂ placementNumber (placement-alike _ t 16 (a .rows) (rw (picks .1 .1 .size) room-16) there _ _ ws (picks .1 .0) few (memoryAt (a .memory)) (length (wholeWords (now (a .offsets))))) (placement-reads-alike _ t 16 (a .rows) (rw (picks .1 .1 .size) room-16) there _ _ ws (picks .1 .0) few (memoryAt (a .memory)) (length (wholeWords (now (a .offsets)))))),
       into .ensures .1 .1
           ∙ front-put 16 _ (now (a .offsets)) (λ i. c .before .before .before .before .before .before .before .before .before .before .before .before .before .before .before .before .before .before .before .slice-known .given i .fits) (into .ensures .1 .0 .1 ∙ ap length out)
           (offsets-alike _ t 16 (a .rows) (rw (picks .1 .1 .size) room-16) there _ _ ws (picks .1 .0) few (memoryAt (a .memory)) (wholeWords (now (a .offsets))) _ (into .ensures .1 .0 .0 ∙ rw out)),

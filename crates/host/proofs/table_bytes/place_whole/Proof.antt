@@ -3,7 +3,7 @@ use mathlib.Core.Path.{sym, ap, ap₂, _∙_}
 use denote.Ref.{now}
 use lib.ListN.{length, length-take}
 use lib.Seq.{length-take-le}
-use Rattle.canon.proofs.Capped.{placement-first, reads-first}
+use Rattle.canon.proofs.Capped.{placement-first, placement-reads-first}
 use Rattle.words.specs.Words.{wholeWords}
 use Rattle.host.specs.Numbers.{memoryAt, placementNumber}
 use Rattle.host.proofs.Decoded.{front, offsets-put}
@@ -71,7 +71,7 @@ returns c =
     let rows = front _ _ 16384 (search needs) (table .ensures .0) (table .ensures .1) in
     let few = front _ _ 16385 (search needs) (list .ensures .0) (list .ensures .1) in
     let out = front _ _ 16384 (search needs) (buffer .ensures .0) (buffer .ensures .1) in (
-      into .ensures .0 ∙ rw (rows, few, out, length-take 16384 (wholeWords (now (a .offsets)))) (ap₂ placementNumber (placement-first (memoryAt (a .memory)) t (a .rows) ws (length (wholeWords (now (a .offsets))))) (reads-first (memoryAt (a .memory)) t (a .rows) ws (length (wholeWords (now (a .offsets)))))),
+      into .ensures .0 ∙ rw (rows, few, out, length-take 16384 (wholeWords (now (a .offsets)))) (ap₂ placementNumber (placement-first (memoryAt (a .memory)) t (a .rows) ws (length (wholeWords (now (a .offsets))))) (placement-reads-first (memoryAt (a .memory)) t (a .rows) ws (length (wholeWords (now (a .offsets)))))),
       into .ensures .1 .1 ∙ offsets-put _ (now (a .offsets)) (λ i. c .before .before .before .before .before .before .before .before .before .before .before .before .before .before .before .before .before .before .slice-known .given i .fits) (into .ensures .1 .0 .1 ∙ ap length out) (memoryAt (a .memory)) t (a .rows) ws (into .ensures .1 .0 .0 ∙ rw (rows, few, out)),
     )
 
