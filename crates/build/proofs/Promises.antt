@@ -62,8 +62,8 @@ module _ (κs : Lfts 2) (ws t : RefT (List ℕ)) (r : Built) (l : List ℕ) (pro
   unfolding buildReads
   reads-are n e = promise .2 ∙ ap (λ (a : Answer ℕ). reported a (rowsRead (now ws))) (sym (promise .0) ∙ e)
 
-  -- 02: "after each definition the running number is the one for the definitions so far": wherever this build comes to, a build of the words before is
-  -- accepted, and what it reports makes up the whole with what the rest reads
+  -- 02: "after each definition the running number is the one for the definitions so far": wherever an accepted build comes to, one of the words before
+  -- is accepted, and what it reports makes up the whole with what the rest reads
   pub reads-so-far :
       (n : ℕ) → builtMeans r ≡ ok n → {left : ℕ} {ts : List Ty} {vs : List ℕ} → Comes (capacity (length (now t))) (now ws) left ts vs →
       (us : List ℕ) × (now ws ≡ us ++ vs) × (buildAnswer us (now t) ≡ ok (length ts)) × (builtReads r ≡ buildReads us (now t) + rowsRead vs)

@@ -150,7 +150,7 @@ module _ {ws t u : List ℕ} {i at reads : ℕ} (r : Running ws t u i at reads) 
       ∙ sym (putRows-snoc room 0 (map rowOf (r .types)) (rowOf x) t)
       ∙ ap (λ (rs : List (List ℕ)). putRows room 0 rs t) (sym (map-snoc (r .types) x))
 
-  -- what is read of it and of the rest is what was left to read
+  -- what the definition at the place reads and what the rest reads make up what was left to read
   one-less : (x : Defined) → verdict ≡ is x → at < length ws →
       rowsRead (drop at ws) ≡ rowsAmong (referencesBehind (kindOf (getD ws at 0)) (drop (at + 1) ws)) + rowsRead (drop (at + 1 + x .length) ws)
   one-less x p h =

@@ -1,6 +1,6 @@
--- The rows read back are no more than the words, or the references of a placement, and the number for some definitions and one more is the sum: the
--- running number of a build. In what is accepted the references of the form 64+j are those that name an earlier definition, and of what is read
--- from a table those that go deep.
+-- The rows read back are no more than the words, or the references of a placement. Wherever a build comes to, the definitions so far are accepted by
+-- themselves, and their rows read back and those of the rest make up the whole: the running number. In what is accepted the references of the form 64+j are
+-- those that name an earlier definition; of what is read from a table those that name one of its rows, and those that go deep.
 use mathlib.Core.Path.{_≡_, refl, sym, ap, _∙_}
 use mathlib.Core.Bool.{Bool, true, false, cond, _&&_}
 use mathlib.Core.List.{List, [], _∷_, _++_, append-assoc, append-nil}
@@ -165,7 +165,7 @@ module _ (w : ℕ) (ws : List ℕ) (k : Kind) (known : kindOf w ≡ some k) (the
   definition-first vs =
       rw (known, same-count vs, past-body (bodyLength (shapeOf k) (getD ws 0 0)) (body ++ vs), take-at body vs _ body-length, drop-at body vs _ body-length)
 
-  -- behind whole definitions it makes one more, and its references are all that is added
+  -- behind whole definitions it makes one more
 
   alone : referencesFrom 0 (w ∷ body) ≡ referencesBehind (kindOf w) ws
   unfolding referencesFrom
@@ -181,13 +181,6 @@ module _ (w : ℕ) (ws : List ℕ) (k : Kind) (known : kindOf w ≡ some k) (the
       ∙ ap (λ (l : List ℕ). referencesFrom 0 us ++ l) (definition-first vs ∙ ap (λ (l : List ℕ). l ++ referencesFrom 0 vs) (sym alone))
       ∙ sym (append-assoc (referencesFrom 0 us) (referencesFrom 0 (w ∷ body)) (referencesFrom 0 vs))
       ∙ ap (λ (l : List ℕ). l ++ referencesFrom 0 vs) (sym (h (w ∷ body)))
-
-  -- "after each definition the running number is the one for the definitions so far"
-  pub one-more-read : (us : List ℕ) → Complete us → rowsRead (us ++ w ∷ body) ≡ rowsRead us + rowsAmong (referencesBehind (kindOf w) ws)
-  one-more-read us h =
-      ap rowsAmong (h (w ∷ body))
-      ∙ rows-append (referencesFrom 0 us) (referencesFrom 0 (w ∷ body))
-      ∙ ap (λ (l : List ℕ). rowsRead us + rowsAmong l) alone
 
   -- and what stands behind it does not change what it defines
   body-alone : (ts : List Ty) (vs : List ℕ) → define ts w (body ++ vs) ≡ define ts w ws
@@ -244,7 +237,8 @@ accepted-short ws t n e =
       | no h ↦ let r = long-build ws t (omega arith) in impossible (cc)
     ]
 
--- so a build of the definitions so far is accepted and reports the running number: with what the rest reads it makes up the whole
+-- "after each definition the running number is the one for the definitions so far": a build of these is accepted and reports it, and with what the rest
+-- reads it makes up the whole
 pub so-far-read :
     (ws t : List ℕ) (n : ℕ) → buildAnswer ws t ≡ ok n → {left : ℕ} {ts : List Ty} {vs : List ℕ} → Comes (capacity (length t)) ws left ts vs →
     (us : List ℕ) × (ws ≡ us ++ vs) × (buildAnswer us t ≡ ok (length ts)) × (buildReads ws t ≡ buildReads us t + rowsRead vs)
@@ -368,9 +362,9 @@ module _ (t : List ℕ) (n : ℕ) (there : noTable t n ≡ false) where
   named-read w i e h = sym (rw (le-leb 64 w h) at (below-mark-read w (omega (arith, read-below t n w i there e))))
 
   -- and exactly when it names one of the rows
-  read-named : (w : ℕ) (i : Info) → read t n w ≡ is i → isRow w ≡ isEarlier n w
+  read-row : (w : ℕ) (i : Info) → read t n w ≡ is i → isRow w ≡ isEarlier n w
   unfolding read
-  read-named w i h = go (leb 64 w) (ltb (w - 64) n) refl refl h
+  read-row w i h = go (leb 64 w) (ltb (w - 64) n) refl refl h
     where
       go :
           (b c : Bool) → leb 64 w ≡ b → ltb (w - 64) n ≡ c →
@@ -380,13 +374,13 @@ module _ (t : List ℕ) (n : ℕ) (there : noTable t n ≡ false) where
       go false c p q e = plain-row n (rows-most t n there) w p
 
 -- of every reference of a list that is read
-pub infos-named :
+pub infos-row :
     (t : List ℕ) (n : ℕ) → noTable t n ≡ false → (p : ℕ) (ws : List ℕ) (is′ : List Info) → infos (read t n) p ws ≡ ok is′ → Every (λ v. isRow v ≡ isEarlier n v) ws
 unfolding infos
-infos-named t n there p [] is′ e = tt
-infos-named t n there p (w ∷ ws) is′ e =
+infos-row t n there p [] is′ e = tt
+infos-row t n there p (w ∷ ws) is′ e =
     let r = first-ok p (read t n w) (infos (read t n) (suc p) ws) is′ e in
-    (read-named t n there w (r .0) (r .2), infos-named t n there (suc p) ws (r .1) (r .3))
+    (read-row t n there w (r .0) (r .2), infos-row t n there (suc p) ws (r .1) (r .3))
 
 -- how many of these infos are those of definitions
 unfoldable pub deepAmong : List Info → ℕ

@@ -147,7 +147,7 @@ pub placing-reads : {t : List ℕ} {n : ℕ} {ws : List ℕ} {room : ℕ} {is′
 unfolding placing ask unless then
 placing-reads {ws = ws} {room = room} m r = rw (r .few, r .table, le-ltb room (length ws) (r .fits), r .gives)
 
--- a refusal's position is that of a reference, or 0
+-- a refusal's position is no more than the number of references, so no more than 16,384
 
 over-within : (p e : ℕ) (fs : List Layout) (i : ℕ) → firstOver p e fs ≡ some i → i ≤ p + length fs
 unfolding firstOver

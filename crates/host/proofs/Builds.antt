@@ -28,13 +28,13 @@ use Rattle.words.specs.Words.{wholeWords, putWords}
 use Rattle.words.proofs.Laws.{length-whole, whole-take, whole-small, put-all, puts-front, puts-over}
 use Rattle.host.specs.Bytes.{tooManyBytes, cutBytes, buildBytes, readsOfBytes, tableBytes}
 use Rattle.host.specs.Local.{withRows}
-use Rattle.host.specs.Numbers.{buildNumber}
+use Rattle.host.specs.Numbers.{buildNumber, buildCall}
 use Rattle.host.proofs.Decoded.{table-put}
 
 -- A description of whole words, not too many of them
 pub whole-build :
     (w t : List ℕ) {r : ℕ} {l : List ℕ} → length w ≤ 65536 → length w % 4 ≤ 0 →
-    (r ≡ buildNumber (buildAnswer (wholeWords w) (wholeWords t)) (buildReads (wholeWords w) (wholeWords t))) × (l ≡ putWords 0 (tableAfter (wholeWords w) (wholeWords t)) t) →
+    (r ≡ buildCall (wholeWords w) (wholeWords t)) × (l ≡ putWords 0 (tableAfter (wholeWords w) (wholeWords t)) t) →
     (r ≡ buildNumber (buildBytes w t) (readsOfBytes w t)) × (l ≡ tableBytes w t)
 unfolding buildBytes readsOfBytes tableBytes buildReads unless
 whole-build w t few whole h = rw (le-ltb 65536 (length w) few, le-ltb 0 (length w % 4) whole) h

@@ -107,7 +107,7 @@ layoutNumber f = 2 ^ 32 * f .align + f .size
 abbrev pub buildNumber : Answer ℕ → ℕ → ℕ
 buildNumber a reads = answerNumber (λ n. 2 ^ 32 * reads + n) a
 
--- of the words ws, into a table t
+-- what a build of the words ws into a table t answers
 abbrev pub buildCall : List ℕ → List ℕ → ℕ
 buildCall ws t = buildNumber (buildAnswer ws t) (buildReads ws t)
 
@@ -115,7 +115,7 @@ buildCall ws t = buildNumber (buildAnswer ws t) (buildReads ws t)
 abbrev pub placementNumber : Answer Layout → ℕ → ℕ
 placementNumber a reads = answerNumber (λ f. 2 ^ 40 * reads + layoutNumber f) a
 
--- of the references ws to a table t of n rows, into a buffer of `room` words
+-- what a placement in the memory m answers, of the references ws to a table t of n rows, into a buffer of `room` words
 abbrev pub placementCall : Memory → List ℕ → ℕ → List ℕ → ℕ → ℕ
 placementCall m t n ws room = placementNumber (placementAnswer m t n ws room) (placementReads m t n ws room)
 

@@ -21,7 +21,7 @@ use Rattle.canon.specs.Description.{reference, built, tableAfter}
 use Rattle.canon.specs.Question.{ask, typeAnswer, sizeAlignAnswer, layoutsIn, Placing, placed, placing, placementAnswer, bufferAfter, offsetsAfter}
 use Rattle.canon.specs.Placement.{Every, NoPlacement, NoneLater}
 use Rattle.canon.specs.Cost.{isRow, rowsAmong, reported, placementReads}
-use Rattle.canon.proofs.Costs.{placement-within, isEarlier, infos-named}
+use Rattle.canon.proofs.Costs.{placement-within, isEarlier, infos-row}
 use Rattle.canon.proofs.Wider.{_≼_}
 use Rattle.canon.proofs.Tests.{impossible}
 use Rattle.canon.proofs.Refusals.{Tightest}
@@ -173,19 +173,20 @@ module _
     (κs : Lfts 3) (m : Memory) (t : RefT (List ℕ)) (n : ℕ) (refs o : RefT (List ℕ)) (r : PlacementAnswer) (l : List ℕ)
     (promise : placement.Post κs (m, (t, (n, (refs, (o, tt))))) r (m, (t, (n, (refs, (at-last o l, tt))))))
   where
-    -- accepted, the references of the form 64+j; and never more than the references
+    -- accepted, it reports how many of the references are of the form 64+j
     pub placement-reads-are : (f : canon.Layout) → placementMeans r ≡ ok f → wholeReads r ≡ rowsAmong (now refs)
     unfolding placementReads
     placement-reads-are f e = promise .1 .1 ∙ ap (λ (a : Answer canon.Layout). reported a (rowsAmong (now refs))) (sym (promise .0) ∙ e)
 
-    -- of each of them, it is of this form exactly when it names one of the rows
+    -- accepted, a reference is of this form exactly when it names one of the rows
     pub placement-reads-named : (f : canon.Layout) → placementMeans r ≡ ok f → Every (λ v. isRow v ≡ isEarlier n v) (now refs)
     unfolding placementAnswer
     placement-reads-named f e =
         let p = answered (placing (memoryOf m) (now t) n (now refs) (length (now o))) f (now o) _ (sym e ∙ promise .0) refl in
         let s = placing-starts (memoryOf m) (now t) n (now refs) (length (now o)) _ (p .1) in
-        infos-named (now t) n (s .1 .table) 0 (now refs) (s .0) (s .1 .gives)
+        infos-row (now t) n (s .1 .table) 0 (now refs) (s .0) (s .1 .gives)
 
+    -- accepted or not, never more than the references
     pub placement-reads-within : wholeReads r ≤ length (now refs)
     placement-reads-within = rw (promise .1 .1) (placement-within (memoryOf m) (now t) n (now refs) (length (now o)))
 

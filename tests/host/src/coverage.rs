@@ -36,8 +36,8 @@ const CHOICES: usize = 10;
 /// The outcome of an answer that reports a row read back: a number that is no refusal's.
 const READ_BACK: u64 = 31;
 
-/// By function, cell and choice, one bit for each outcome: bit 0 for an answer, bit r for refusal r, and
-/// `READ_BACK`.
+/// By function, cell and choice, one bit for each outcome: bit 0 for an answer, bit r for refusal r, and bit
+/// `READ_BACK` for a report.
 pub struct Coverage([[[u32; CHOICES]; 2]; REFUSALS.len()]);
 
 impl Coverage {

@@ -63,7 +63,7 @@ pub enum Fault {
     RepeatOnce,
     /// A refused build reports what it read back before.
     RefusedBuild,
-    /// A refused placement does.
+    /// A refused placement reports what it read back before.
     RefusedPlacement,
     /// The port's built rows have the memories exchanged, after the comparison, so that they agree with the model.
     PortMemories,
