@@ -31,17 +31,7 @@ pub fn run(report: &mut Report) {
     let over_bytes = || bytes::flatten(&table_bytes, ROWS, black_box(&list));
     beside(report, "flatten of 8, 3 rows", 3.0, over_words, over_bytes);
 
-    let (mut offsets, mut offset_bytes) = ([0; 8], [0; 32]);
-    let over_words = || words::placement(&table, ROWS, black_box(&references), &mut offsets);
-    let over_bytes = || bytes::placement(&table_bytes, ROWS, black_box(&list), &mut offset_bytes);
-    beside(
-        report,
-        "placement of 8, 3 rows",
-        3.0,
-        over_words,
-        over_bytes,
-    );
-    assert_eq!(offset_bytes[..], bytes_of(&offsets), "the same offsets");
+    placement(report, &table, &table_bytes);
 
     let description = bytes_of(&SMALL);
     let (mut built, mut built_bytes) = (table, table_bytes.clone());
@@ -55,6 +45,25 @@ pub fn run(report: &mut Report) {
         over_bytes,
     );
     assert_eq!(built_bytes, bytes_of(&built), "the same table");
+}
+
+fn placement(report: &mut Report, table: &[u32], table_bytes: &[u8]) {
+    let references = SMALL_REFERENCES;
+    let list = bytes_of(&references);
+    let [mut offsets, mut gaps] = [[0; 8]; 2];
+    let [mut offset_bytes, mut gap_bytes] = [[0; 32]; 2];
+    let over_words = || {
+        let references = black_box(&references);
+        words::placement(table, ROWS, references, &mut offsets, &mut gaps)
+    };
+    let over_bytes = || {
+        let list = black_box(&list);
+        bytes::placement(table_bytes, ROWS, list, &mut offset_bytes, &mut gap_bytes)
+    };
+    let what = "placement of 8, 3 rows";
+    beside(report, what, 3.0, over_words, over_bytes);
+    assert_eq!(offset_bytes[..], bytes_of(&offsets), "the same offsets");
+    assert_eq!(gap_bytes[..], bytes_of(&gaps), "the same gaps");
 }
 
 fn beside(

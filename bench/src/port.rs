@@ -1,4 +1,5 @@
 //! The port's calls that are timed, over words and over bytes, by the declarations of the Rust crate.
+use crate::tested::Placed;
 
 #[path = "../../bindings/rust/src/raw.rs"]
 #[allow(dead_code)]
@@ -30,11 +31,22 @@ macro_rules! calls_over {
                 rows: u32,
                 references: &[$unit],
                 offsets: &mut [$unit],
+                gaps: &mut [$unit],
             ) -> u64 {
-                let (table, table_len) = (table.as_ptr(), table.len());
-                let (list, list_len) = (references.as_ptr(), references.len());
-                let (out, out_len) = (offsets.as_mut_ptr(), offsets.len());
-                unsafe { port::placement(0, table, table_len, rows, list, list_len, out, out_len) }
+                unsafe {
+                    port::placement(
+                        0,
+                        table.as_ptr(),
+                        table.len(),
+                        rows,
+                        references.as_ptr(),
+                        references.len(),
+                        offsets.as_mut_ptr(),
+                        offsets.len(),
+                        gaps.as_mut_ptr(),
+                        gaps.len(),
+                    )
+                }
             }
 
             pub fn flatten(table: &[$unit], rows: u32, references: &[$unit]) -> u64 {
@@ -75,11 +87,11 @@ pub fn layout((size, align): (u32, u32)) -> u64 {
     u64::from(size) | u64::from(align) << 32
 }
 
-/// The answer of a placement: the size in bits 0 to 31, the alignment in bits 32 to 35, and from bit 40 the rows
-/// that it read back.
-pub fn placed(size: u32, align: u32, references: &[u32]) -> u64 {
+/// The answer of a placement: the size in bits 0 to 31, the alignment in bits 32 to 35, the gap after the last
+/// member in bits 36 to 39, and from bit 40 the rows that it read back.
+pub fn placed(Placed { size, align, after }: Placed, references: &[u32]) -> u64 {
     let definitions = references.iter().filter(|reference| **reference >= 64);
-    layout((size, align)) | (definitions.count() as u64) << 40
+    layout((size, align)) | u64::from(after) << 36 | (definitions.count() as u64) << 40
 }
 
 /// The answer of a flatten: the types in bits 0 to 33, their count in bits 40 to 47.

@@ -1,5 +1,6 @@
 //! Questions: the port beside the original, and beside Rust that makes the same tests.
 use crate::report::{Aim, Group, Report};
+use crate::tested::Placed;
 use crate::timing::Contender;
 use crate::{builds, inputs, port, tested};
 use oracle::Original;
@@ -31,43 +32,67 @@ fn types_of(original: &mut Original, references: &[u32]) -> Vec<InterfaceType> {
     types.collect::<Option<_>>().expect("good references")
 }
 
+/// What a placement writes.
+#[derive(Debug, PartialEq)]
+struct Buffers {
+    offsets: Vec<u32>,
+    gaps: Vec<u32>,
+}
+
+impl Buffers {
+    fn new(many: usize) -> Buffers {
+        Buffers {
+            offsets: vec![0; many],
+            gaps: vec![0; many],
+        }
+    }
+
+    #[inline]
+    fn by_rust(&mut self, table: &[u32], references: &[u32]) -> Option<Placed> {
+        tested::placement(table, ROWS, references, &mut self.offsets, &mut self.gaps)
+    }
+
+    #[inline]
+    fn by_port(&mut self, table: &[u32], references: &[u32]) -> u64 {
+        port::words::placement(table, ROWS, references, &mut self.offsets, &mut self.gaps)
+    }
+}
+
+/// In the 32-bit memory. The original reports no gaps: they are what its offsets and sizes leave.
+fn by_original(original: &Original, types: &[InterfaceType]) -> (Buffers, Placed) {
+    let placed = original.placement(false, types).expect("a placement");
+    let (size, align, offsets) = (placed.size, placed.align, placed.offsets);
+    let (mut end, mut gaps) = (0, Vec::new());
+    for (ty, offset) in types.iter().zip(&offsets) {
+        gaps.push(offset - end);
+        end = offset + original.size_align(false, ty).0;
+    }
+    let after = size - end;
+    (Buffers { offsets, gaps }, Placed { size, align, after })
+}
+
 fn placement(report: &mut Report, many: usize, least: f64) {
     let (table, mut original) = table();
     let references = inputs::references(many, ROWS);
     let types = types_of(&mut original, &references);
-    let expected = original.placement(false, &types).expect("a placement");
-    let (size, align) = (expected.size, expected.align);
-    let mut tested_offsets = vec![0; many];
-    let placed = tested::placement(&table, ROWS, &references, &mut tested_offsets);
-    assert_eq!(placed, Some((size, align)));
-    assert_eq!(tested_offsets, expected.offsets);
-    let mut offsets = vec![0; many];
-    let answer = port::words::placement(&table, ROWS, &references, &mut offsets);
-    let said = port::placed(size, align, &references);
-    assert_eq!(answer, said, "the port's placement");
-    assert_eq!(offsets, expected.offsets, "the port's offsets");
+    let (written, answer) = by_original(&original, &types);
+    let (mut rust, mut ported) = (Buffers::new(many), Buffers::new(many));
+    assert_eq!(rust.by_rust(&table, &references), Some(answer));
+    assert_eq!(rust, written);
+    let said = port::placed(answer, &references);
+    let placed = ported.by_port(&table, &references);
+    assert_eq!(placed, said, "the port's placement");
+    assert_eq!(ported, written, "the port's offsets and gaps");
 
     let contenders = vec![
         Contender::new("(a) the original (32 and 64 both)", || {
             black_box(original.placement(false, black_box(&types)));
         }),
         Contender::new("(t) Rust with the same tests", || {
-            let references = black_box(&references);
-            black_box(tested::placement(
-                &table,
-                ROWS,
-                references,
-                &mut tested_offsets,
-            ));
+            black_box(rust.by_rust(&table, black_box(&references)));
         }),
         Contender::new("the port", || {
-            let references = black_box(&references);
-            black_box(port::words::placement(
-                &table,
-                ROWS,
-                references,
-                &mut offsets,
-            ));
+            black_box(ported.by_port(&table, black_box(&references)));
         }),
     ];
     let what = format!("placement of {many}, 1,000 rows");

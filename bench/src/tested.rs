@@ -64,42 +64,87 @@ pub fn size_align(table: &[u32], n: u32, reference: u32) -> Option<(u32, u32)> {
     Some((read.size, read.align))
 }
 
-/// Offsets in the 32-bit memory, staged and copied once all is accepted; size and alignment.
-pub fn placement(table: &[u32], n: u32, references: &[u32], out: &mut [u32]) -> Option<(u32, u32)> {
-    // A short list does not pay for clearing a long stage.
-    match references.len() {
-        0..=64 => placement_staged(table, n, references, out, &mut [0; 64]),
-        _ => placement_staged(table, n, references, out, &mut [0; 16_384]),
-    }
+/// What a placement answers: size, alignment, and the gap after the last member.
+#[derive(Clone, Copy, Debug, PartialEq, Eq)]
+pub struct Placed {
+    pub size: u32,
+    pub align: u32,
+    pub after: u32,
 }
 
-#[inline]
-fn placement_staged(
+/// Offsets and gaps in the 32-bit memory, staged and copied once all is accepted.
+pub fn placement(
     table: &[u32],
     n: u32,
     references: &[u32],
-    out: &mut [u32],
-    stage: &mut [u32],
-) -> Option<(u32, u32)> {
-    if references.len() > 16_384 || n as usize > capacity(table.len()) {
-        return None;
+    offsets: &mut [u32],
+    gaps: &mut [u32],
+) -> Option<Placed> {
+    // A short list does not pay for a long stage.
+    match references.len() {
+        0..=64 => Stage::<64>::placement(table, n, references, offsets, gaps),
+        _ => Stage::<16_384>::placement(table, n, references, offsets, gaps),
     }
-    let out = out.get_mut(..references.len())?;
-    let (mut end, mut greatest) = (0_u64, 1);
-    for (place, reference) in references.iter().enumerate() {
-        // SAFETY: there is room for n rows.
-        let member = unsafe { read(*reference, table, n) }?;
-        let start = round_up(end, member.align);
-        end = start + u64::from(member.size);
-        if end > u64::from(u32::MAX) {
+}
+
+/// What is written once all is accepted. A gap is less than an alignment, so a byte holds it.
+struct Stage<const MOST: usize> {
+    offsets: [u32; MOST],
+    gaps: [u8; MOST],
+}
+
+impl<const MOST: usize> Stage<MOST> {
+    // Not inlined, so that each stage has a frame of its own: in one frame a short list pays for touching the long one's.
+    #[inline(never)]
+    fn placement(
+        table: &[u32],
+        n: u32,
+        references: &[u32],
+        offsets: &mut [u32],
+        gaps: &mut [u32],
+    ) -> Option<Placed> {
+        let many = references.len();
+        if many > MOST || n as usize > capacity(table.len()) {
             return None;
         }
-        stage[place] = start as u32;
-        greatest = greatest.max(member.align);
+        let (offsets, gaps) = (offsets.get_mut(..many)?, gaps.get_mut(..many)?);
+        let mut stage = Stage {
+            offsets: [0; MOST],
+            gaps: [0; MOST],
+        };
+        // SAFETY: there is room for n rows.
+        let placed = unsafe { stage.fill(table, n, references) }?;
+        offsets.copy_from_slice(&stage.offsets[..many]);
+        for (gap, staged) in gaps.iter_mut().zip(&stage.gaps) {
+            *gap = (*staged).into();
+        }
+        Some(placed)
     }
-    let size = u32::try_from(round_up(end, greatest)).ok()?;
-    out.copy_from_slice(&stage[..references.len()]);
-    Some((size, greatest))
+
+    /// # Safety
+    /// The table has room for n rows.
+    #[inline]
+    unsafe fn fill(&mut self, table: &[u32], n: u32, references: &[u32]) -> Option<Placed> {
+        let (mut end, mut greatest) = (0_u64, 1);
+        for (place, reference) in references.iter().enumerate() {
+            // SAFETY: by this function's own.
+            let member = unsafe { read(*reference, table, n) }?;
+            let start = round_up(end, member.align);
+            self.offsets[place] = start as u32;
+            self.gaps[place] = (start - end) as u8;
+            end = start + u64::from(member.size);
+            if end > u64::from(u32::MAX) {
+                return None;
+            }
+            greatest = greatest.max(member.align);
+        }
+        let size = u32::try_from(round_up(end, greatest)).ok()?;
+        Some(Placed {
+            size,
+            align: greatest,
+            after: size - end as u32,
+        })
+    }
 }
 
 fn round_up(place: u64, align: u32) -> u64 {

@@ -68,12 +68,12 @@ static int print_type(const uint32_t *table, size_t words, uint32_t rows)
     return 0;
 }
 
-/* Where the members stand in one memory. */
+/* Where the members stand in one memory. padding.c shows what the gaps are for. */
 static int print_placement(uint32_t memory, const uint32_t *table, size_t words, uint32_t rows)
 {
     static const uint32_t members[] = {U8, STRING, U8};
-    uint32_t offset[3];
-    uint64_t placed = lampughjata_placement(memory, table, words, rows, members, 3, offset, 3);
+    uint32_t offset[3], gap[3];
+    uint64_t placed = lampughjata_placement(memory, table, words, rows, members, 3, offset, 3, gap, 3);
     if (is_refused("placement", placed)) return 1;
     printf("placement, %s-bit memory: U8 at %u, String at %u, U8 at %u; ",
            memory == MEMORY32 ? "32" : "64", (unsigned)offset[0], (unsigned)offset[1],

@@ -6,10 +6,11 @@
  * Each call has examples, which the project compiles and holds to the library (`bindings/c/run --tests`). Most are about the record
  * (U8, String, U8), and each stands on those before it:
  *
- *     uint32_t words[] = {1, 3, 2, 12, 2}, table[16], longer[40], members[] = {2, 12, 2}, offsets[3], record[] = {64};
+ *     uint32_t words[] = {1, 3, 2, 12, 2}, table[16], longer[40], members[] = {2, 12, 2}, offsets[3], gaps[3], record[] = {64};
  *     uint32_t infos[] = {1, 1, 1, 1, 1, 8, 4, 16, 8, 2}, cases[] = {0, 0, 0, 0, 0, 0, 1, 8, 4, 16, 8, 2};
  *     const uint64_t REFUSED = (uint64_t)1 << 56, ALIGN = (uint64_t)1 << 32, COUNT = (uint64_t)1 << 40, MEMORY = (uint64_t)1 << 55;
  *     const uint64_t BUILD_READS = (uint64_t)1 << 32, PLACEMENT_READS = (uint64_t)1 << 40;
+ *     const uint64_t SKIPPED = (uint64_t)1 << 32, GAP_AFTER = (uint64_t)1 << 36;
  */
 #ifndef LAMPUGHJATA_H
 #define LAMPUGHJATA_H
@@ -21,9 +22,11 @@
 extern "C" {
 #endif
 
-/* The first multiple of an alignment at or after a place.
- *     lampughjata_align_to(13, 8) == 16
- *     lampughjata_align_to(13, 3) == 8 * REFUSED */
+/* The first multiple of an alignment at or after a place in bits 0 to 31, and the bytes skipped to it, 0 to 7, in bits 32 to 39.
+ *     lampughjata_align_to(13, 8) == 16 + 3 * SKIPPED
+ *     lampughjata_align_to(16, 8) == 16
+ *     lampughjata_align_to(13, 3) == 8 * REFUSED
+ *     lampughjata_align_to(4294967289, 8) == 6 * REFUSED */
 uint64_t lampughjata_align_to(uint32_t place, uint32_t align);
 
 /* The greater number.
@@ -39,9 +42,10 @@ uint64_t lampughjata_add_flat(uint32_t a, uint32_t b);
 uint64_t lampughjata_max_flat(uint32_t a, uint32_t b);
 
 /* An info is size32, align32, size64, align64 and a flat count, 0 to 16 or 255 for none. Where a String goes that follows byte 1
- * of a 32-bit memory (0), and where it ends.
+ * of a 32-bit memory (0), where it ends, and the bytes skipped before it.
  *     lampughjata_next_field(0, 8, 4, 16, 8, 2, 1, 0) == 4
- *     lampughjata_next_field(0, 8, 4, 16, 8, 2, 1, 1) == 12 */
+ *     lampughjata_next_field(0, 8, 4, 16, 8, 2, 1, 1) == 12
+ *     lampughjata_next_field(0, 8, 4, 16, 8, 2, 1, 2) == 3 */
 uint64_t lampughjata_next_field(uint32_t memory, uint32_t size32, uint32_t align32, uint32_t size64,
     uint32_t align64, uint32_t flat, uint32_t end, uint32_t k);
 
@@ -125,15 +129,29 @@ uint64_t lampughjata_type(const uint32_t *table, size_t table_len, uint32_t rows
 uint64_t lampughjata_size_align(uint32_t memory, const uint32_t *table, size_t table_len, uint32_t rows,
     uint32_t reference);
 
-/* Places members one after the other: writes their offsets, answers the size in bits 0 to 31 and the alignment in bits 32 to 35;
- * and in bits 40 to 55 the rows that it read back, one for each reference of 64 or more.
- *     lampughjata_placement(1, table, 16, 1, members, 3, offsets, 3) == 32 + 8 * ALIGN
- *     offsets[1] == 8
- *     offsets[2] == 24
- *     lampughjata_placement(1, table, 16, 1, (uint32_t[]){64, 2, 64}, 3, offsets, 3) == 72 + 8 * ALIGN + 2 * PLACEMENT_READS
- *     lampughjata_placement(1, table, 16, 1, (uint32_t[]){64, 2, 65}, 3, offsets, 3) == 4 * REFUSED + 2 */
+/* Places members one after the other: writes the offset of each, and the gap before it, the bytes lost from the end of the member
+ * before it, or from 0. Answers the size in bits 0 to 31, the alignment in bits 32 to 35, the gap after the last member, 0 to 7, in
+ * bits 36 to 39; and in bits 40 to 55 the rows that it read back, one for each reference of 64 or more. The gaps and the members'
+ * own sizes add up to the size.
+ *     lampughjata_placement(1, table, 16, 1, members, 3, offsets, 3, gaps, 3) == 32 + 8 * ALIGN + 7 * GAP_AFTER
+ *     offsets[1] == 8 && gaps[1] == 7
+ *     offsets[2] == 24 && gaps[2] == 0
+ *     (gaps[0] + 1) + (gaps[1] + 16) + (gaps[2] + 1) + 7 == 32
+ *     uint64_t twice = lampughjata_placement(1, table, 16, 1, (uint32_t[]){64, 2, 64}, 3, offsets, 3, gaps, 3);
+ *     twice == 72 + 8 * ALIGN + 2 * PLACEMENT_READS
+ *     offsets[2] == 40 && gaps[2] == 7
+ *     lampughjata_placement(1, NULL, 0, 0, NULL, 0, NULL, 0, NULL, 0) == 1 * ALIGN
+ *
+ * Each buffer has room for as many words as there are references, or the call is refused (7); longer ones keep their later words. A
+ * refused call writes neither. The buffers overlap neither each other nor the table nor the references.
+ *     lampughjata_placement(1, table, 16, 1, members, 3, offsets, 2, gaps, 3) == 7 * REFUSED
+ *     lampughjata_placement(1, table, 16, 1, members, 3, offsets, 3, gaps, 2) == 7 * REFUSED
+ *     lampughjata_placement(1, table, 16, 1, (uint32_t[]){2, 2, 65}, 3, offsets, 3, gaps, 3) == 4 * REFUSED + 2
+ *     lampughjata_placement(1, table, 16, 1, members, 2, offsets, 3, gaps, 3) == 24 + 8 * ALIGN
+ *     offsets[2] == 40 && gaps[2] == 7 */
 uint64_t lampughjata_placement(uint32_t memory, const uint32_t *table, size_t table_len, uint32_t rows,
-    const uint32_t *references, size_t references_len, uint32_t *offsets, size_t offsets_len);
+    const uint32_t *references, size_t references_len, uint32_t *offsets, size_t offsets_len, uint32_t *gaps,
+    size_t gaps_len);
 
 /* The core types of values that travel together, two bits each, or that they go through memory.
  *     lampughjata_flatten(1, 16, table, 16, 1, record, 1) == 0x14 + 4 * COUNT
@@ -180,10 +198,13 @@ uint64_t lampughjata_contains_borrow(const uint32_t *table, size_t table_len, ui
  *     lampughjata_type_bytes((uint8_t *)table, 64, 1, 64, 0) == 16
  *     lampughjata_type_bytes((uint8_t *)longer, 160, 2, 65, 8) == 2
  *     lampughjata_size_align_bytes(1, (uint8_t *)table, 64, 1, 64) == 32 + 8 * ALIGN
- *     lampughjata_placement_bytes(0, (uint8_t *)table, 64, 1, (uint8_t *)members, 12, (uint8_t *)offsets, 12) == 16 + 4 * ALIGN
- *     offsets[2] == 12
- *     uint64_t placed = lampughjata_placement_bytes(0, (uint8_t *)table, 64, 1, (uint8_t *)record, 4, (uint8_t *)offsets, 12);
+ *     uint8_t *out = (uint8_t *)offsets, *lost = (uint8_t *)gaps;
+ *     uint64_t placed = lampughjata_placement_bytes(0, (uint8_t *)table, 64, 1, (uint8_t *)members, 12, out, 12, lost, 12);
+ *     placed == 16 + 4 * ALIGN + 3 * GAP_AFTER
+ *     offsets[2] == 12 && gaps[1] == 3
+ *     placed = lampughjata_placement_bytes(0, (uint8_t *)table, 64, 1, (uint8_t *)record, 4, out, 12, lost, 12);
  *     placed == 16 + 4 * ALIGN + 1 * PLACEMENT_READS
+ *     lampughjata_placement_bytes(0, (uint8_t *)table, 64, 1, (uint8_t *)members, 12, out, 12, lost, 11) == 7 * REFUSED
  *     lampughjata_flatten_bytes(0, 16, (uint8_t *)table, 64, 1, (uint8_t *)record, 4) == 4 * COUNT
  *     lampughjata_lowering_bytes(0, 0, (uint8_t *)table, 64, 1, (uint8_t *)record, 4) == MEMORY
  *     lampughjata_lifting_bytes(0, 1, (uint8_t *)table, 64, 1, (uint8_t *)record, 4) == 4 * COUNT
@@ -198,7 +219,8 @@ uint64_t lampughjata_type_bytes(const uint8_t *table, size_t table_len, uint32_t
 uint64_t lampughjata_size_align_bytes(uint32_t memory, const uint8_t *table, size_t table_len, uint32_t rows,
     uint32_t reference);
 uint64_t lampughjata_placement_bytes(uint32_t memory, const uint8_t *table, size_t table_len, uint32_t rows,
-    const uint8_t *references, size_t references_len, uint8_t *offsets, size_t offsets_len);
+    const uint8_t *references, size_t references_len, uint8_t *offsets, size_t offsets_len, uint8_t *gaps,
+    size_t gaps_len);
 uint64_t lampughjata_flatten_bytes(uint32_t memory, uint32_t max, const uint8_t *table, size_t table_len,
     uint32_t rows, const uint8_t *references, size_t references_len);
 uint64_t lampughjata_lowering_bytes(uint32_t memory, uint32_t asynchronous, const uint8_t *table,

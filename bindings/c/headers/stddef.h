@@ -1,3 +1,3 @@
-/* Of the C library's header, what the example and lampughjata.h use. */
+/* Of the C library's header, what the examples and lampughjata.h use. */
 typedef __SIZE_TYPE__ size_t;
 #define NULL ((void *)0)

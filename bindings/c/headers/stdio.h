@@ -1,2 +1,2 @@
-/* Of the C library's header, what the example and lampughjata.h use. */
+/* Of the C library's header, what the examples and lampughjata.h use. */
 int printf(const char *format, ...);

@@ -31,10 +31,9 @@ fn main() -> Result<(), Refused> {
 
     // The same record stands differently in the two memories: strings and lists hold pointers.
     for memory in [Memory::Memory32, Memory::Memory64] {
-        let mut offsets = [0; 7];
-        let placed = table.placement(memory, &types, &mut offsets)?;
+        let placed = table.placement(memory, &types)?;
         println!("{memory:?}: {placed}");
-        for ((name, _), offset) in members.iter().zip(offsets) {
+        for ((name, _), offset) in members.iter().zip(placed.offsets) {
             println!("{offset:6}  {name}");
         }
     }

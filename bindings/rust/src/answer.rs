@@ -41,11 +41,15 @@ pub fn built(value: u64) -> Built {
     }
 }
 
-/// The size in bits 0 to 31, the alignment in bits 32 to 35, the rows read back in bits 40 to 55.
-pub fn placement(value: u64) -> Placement {
+/// The size in bits 0 to 31, the alignment in bits 32 to 35, the gap after the last member in bits 36 to 39, the
+/// rows read back in bits 40 to 55; with the buffers that the call wrote.
+pub fn placement(value: u64, offsets: Vec<u32>, gaps: Vec<u32>) -> Placement {
     Placement {
+        offsets,
+        gaps,
         size: value as u32,
         align: (value >> 32) as u32 & 0xf,
+        after: (value >> 36) as u32 & 0xf,
         reads: (value >> 40) as u32,
     }
 }

@@ -57,13 +57,27 @@ pub fn placement(
     table: RawTable,
     references: &[Reference],
     offsets: &mut [u32],
+    gaps: &mut [u32],
 ) -> u64 {
     let (words, words_len) = lent(table.words);
     let (list, list_len) = lent_references(references);
-    let (out, out_len) = written(offsets);
-    let rows = table.rows;
+    let (offsets, offsets_len) = written(offsets);
+    let (gaps, gaps_len) = written(gaps);
     // SAFETY: as at the top.
-    unsafe { raw::placement(memory, words, words_len, rows, list, list_len, out, out_len) }
+    unsafe {
+        raw::placement(
+            memory,
+            words,
+            words_len,
+            table.rows,
+            list,
+            list_len,
+            offsets,
+            offsets_len,
+            gaps,
+            gaps_len,
+        )
+    }
 }
 
 pub fn flatten(memory: u32, max: u32, table: RawTable, references: &[Reference]) -> u64 {

@@ -81,6 +81,8 @@ macro_rules! declare_over {
                 references_len: usize,
                 offsets: *mut $unit,
                 offsets_len: usize,
+                gaps: *mut $unit,
+                gaps_len: usize,
             ) -> u64;
 
             #[link_name = concat!("lampughjata_flatten", $suffix)]

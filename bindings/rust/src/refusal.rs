@@ -21,7 +21,8 @@ pub enum Refusal {
     BadCount = 5,
     /// An offset or a size above 4294967295: of a placement in its own memory, else in either.
     TooLarge = 6,
-    /// The lent buffer is too short: for the next definition's row, or for the offsets.
+    /// A lent buffer is too short: for the next definition's row, or for the offsets or the gaps. A
+    /// [`Table::placement`](crate::Table::placement) never answers it.
     NoRoom = 7,
     /// More rows than the table has room for, or a row that was read and is not well formed.
     BadRow = 8,
@@ -64,7 +65,7 @@ impl fmt::Display for Refusal {
             Refusal::BadRef => "a bad reference, or one to a definition that is not there yet",
             Refusal::BadCount => "a bad count: no case, more than 512 flags, or a maximum above 16",
             Refusal::TooLarge => "an offset or a size is above 4294967295",
-            Refusal::NoRoom => "the buffer has no room for the next row or for all offsets",
+            Refusal::NoRoom => "a buffer has no room for the next row, all offsets or all gaps",
             Refusal::BadRow => "more rows than the table has room for, or a row not well formed",
             Refusal::TooDeep => "a definition is more than 100 definitions deep",
         })
@@ -90,7 +91,7 @@ pub struct Refused {
 
 impl Refused {
     /// The place, where the refusal is about one: a list that is too long, a maximum and a buffer for
-    /// offsets are not. Position 0 may also mean that no single reference is at fault.
+    /// offsets or gaps are not. Position 0 may also mean that no single reference is at fault.
     fn told_place(&self) -> Option<String> {
         match (self.refusal, self.place) {
             (Refusal::TooLong, _) => None,

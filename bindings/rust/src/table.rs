@@ -63,14 +63,41 @@ pub struct Layout {
     pub align: u32,
 }
 
-/// What a placement answers beside its offsets: bytes and alignment of the record that the members make,
-/// and what it took to place them.
-#[derive(Clone, Copy, Debug, PartialEq, Eq, Hash)]
+/// Where the members of a record stand and how many bytes around them are lost; bytes and alignment of the
+/// record that they make; and what it took to place them.
+///
+/// What a member loses inside is part of its size and in no gap: place that member's own members to learn it.
+#[derive(Clone, Debug, PartialEq, Eq, Hash)]
 pub struct Placement {
+    /// Where each member begins.
+    pub offsets: Vec<u32>,
+    /// The bytes lost before each member: from the end of the one before it, or from 0, to its own offset.
+    pub gaps: Vec<u32>,
     pub size: u32,
     pub align: u32,
+    /// The bytes lost after the last member, up to the size: 0 to 7.
+    pub after: u32,
     /// How many rows were read back: one for each member that is a definition, each time it is named.
     pub reads: u32,
+}
+
+impl Placement {
+    /// All bytes lost: the gaps before the members and the one after the last. With the sizes of the members
+    /// they make the size of the record.
+    ///
+    /// ```
+    /// # use lampughjata::{Memory, Reference, Table};
+    /// let table = Table::build(&[])?;
+    /// let mixed = [Reference::U8, Reference::U64, Reference::U8];
+    /// let sorted = [Reference::U64, Reference::U8, Reference::U8];
+    /// assert_eq!(table.placement(Memory::Memory32, &mixed)?.padding(), 7 + 7);
+    /// assert_eq!(table.placement(Memory::Memory32, &sorted)?.padding(), 6);
+    /// # Ok::<(), lampughjata::Refused>(())
+    /// ```
+    pub fn padding(&self) -> u64 {
+        let gaps = self.gaps.iter().copied().chain([self.after]);
+        gaps.map(u64::from).sum()
+    }
 }
 
 /// The layout alone.
@@ -399,33 +426,30 @@ impl<W: AsRef<[u32]>> Table<W> {
         answer::asked(answer).map(answer::layout)
     }
 
-    /// Places the members of a record one after the other: one offset for each in `offsets`, whose later
-    /// words are kept. Answers the record's size and alignment, and how many rows it read back. Nothing is
-    /// written if it refuses.
+    /// Places the members of a record one after the other. Answers their offsets, the bytes lost before each
+    /// and after the last, the record's size and alignment, and how many rows it read back.
     ///
     /// ```
-    /// # use lampughjata::{Description, Memory, Placement, Reference, Table};
+    /// # use lampughjata::{Description, Memory, Reference, Table};
     /// # let mut description = Description::new();
     /// # let members = [Reference::U8, Reference::STRING, Reference::U8];
     /// # let named = description.record(&members);
     /// # let table = Table::build(description.words())?;
-    /// let mut offsets = [0; 3];
-    /// let placed = table.placement(Memory::Memory32, &members, &mut offsets)?;
-    /// assert_eq!(offsets, [0, 4, 12]);
-    /// assert_eq!(placed, Placement { size: 16, align: 4, reads: 0 });
+    /// let placed = table.placement(Memory::Memory32, &members)?;
+    /// assert_eq!(placed.offsets, [0, 4, 12]);
+    /// assert_eq!((placed.gaps, placed.after), (vec![0, 3, 0], 3));
+    /// assert_eq!((placed.size, placed.align), (16, 4));
     ///
-    /// let placed = table.placement(Memory::Memory32, &[named, named], &mut offsets)?;
-    /// assert_eq!(placed, Placement { size: 32, align: 4, reads: 2 });
+    /// let placed = table.placement(Memory::Memory32, &[named, named])?;
+    /// assert_eq!((placed.size, placed.reads), (32, 2));
     /// # Ok::<(), lampughjata::Refused>(())
     /// ```
-    pub fn placement(
-        &self,
-        memory: Memory,
-        members: &[Reference],
-        offsets: &mut [u32],
-    ) -> Result<Placement> {
-        let answer = calls::placement(memory.number(), self.raw(), members, offsets);
-        answer::asked(answer).map(answer::placement)
+    pub fn placement(&self, memory: Memory, members: &[Reference]) -> Result<Placement> {
+        let mut offsets = vec![0; members.len()];
+        let mut gaps = vec![0; members.len()];
+        let (memory, table) = (memory.number(), self.raw());
+        let answer = calls::placement(memory, table, members, &mut offsets, &mut gaps);
+        answer::asked(answer).map(|value| answer::placement(value, offsets, gaps))
     }
 
     /// The core types of values that travel together, if these are not more than `max`, which is at

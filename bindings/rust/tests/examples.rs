@@ -37,11 +37,10 @@ fn payload_offsets(define: impl FnOnce(&mut Description) -> Reference) -> [u32; 
 }
 
 /// Where a record's members stand, and its size and alignment.
-fn placed<const N: usize>(memory: Memory, members: [Reference; N]) -> ([u32; N], u32, u32) {
+fn placed(memory: Memory, members: &[Reference]) -> (Vec<u32>, u32, u32) {
     let table = Table::build(&[]).unwrap();
-    let mut offsets = [0; N];
-    let placed = table.placement(memory, &members, &mut offsets).unwrap();
-    (offsets, placed.size, placed.align)
+    let placed = table.placement(memory, members).unwrap();
+    (placed.offsets, placed.size, placed.align)
 }
 
 fn side(memory: Memory, calling: Calling, types: &[Reference]) -> Side<'_> {
@@ -71,7 +70,7 @@ fn empty_record() {
 fn record_of_two_scalars() {
     let members = [Reference::U8, Reference::U32];
     for memory in MEMORIES {
-        assert_eq!(placed(memory, members), ([0, 4], 8, 4));
+        assert_eq!(placed(memory, &members), (vec![0, 4], 8, 4));
     }
     assert_eq!(last(|d| d.record(&members)).unwrap().flat_count, Some(2));
 }
@@ -79,8 +78,8 @@ fn record_of_two_scalars() {
 #[test]
 fn record_around_a_string() {
     let members = [Reference::U8, Reference::STRING, Reference::U8];
-    assert_eq!(placed(Memory::Memory32, members), ([0, 4, 12], 16, 4));
-    assert_eq!(placed(Memory::Memory64, members), ([0, 8, 24], 32, 8));
+    assert_eq!(placed(Memory::Memory32, &members), (vec![0, 4, 12], 16, 4));
+    assert_eq!(placed(Memory::Memory64, &members), (vec![0, 8, 24], 32, 8));
 
     let info = last(|d| d.record(&members)).unwrap();
     assert_eq!(sizes(&info), [(16, 4), (32, 8)]);

@@ -1,5 +1,5 @@
 //! How many rows builds and placements read back, by order 6's rule: one for each reference to a definition.
-use lampughjata::{Description, Memory, Place, Placement, Reference, Refusal, Refused, Table};
+use lampughjata::{Description, Memory, Place, Reference, Refusal, Refused, Table};
 
 /// As a count, this looks like the reference to definition 0.
 const LIKE_A_REFERENCE: u32 = 64;
@@ -167,16 +167,15 @@ fn placements_read_each_definition_each_time() {
     let (table, [flags, wide]) = table_of_two();
     for memory in [Memory::Memory32, Memory::Memory64] {
         let placed = |members: &[Reference]| {
-            let mut offsets = vec![0; members.len()];
-            table.placement(memory, members, &mut offsets).unwrap()
+            let placed = table.placement(memory, members).unwrap();
+            (placed.size, placed.align, placed.reads)
         };
-        let expected = |size, align, reads| Placement { size, align, reads };
-        assert_eq!(placed(&[]), expected(0, 1, 0));
-        assert_eq!(placed(&[BYTE, Reference::U64]), expected(16, 8, 0));
-        assert_eq!(placed(&[flags]), expected(1, 1, 1));
-        assert_eq!(placed(&[flags, Reference::U16]), expected(4, 2, 1));
-        assert_eq!(placed(&[flags, Reference::U32, flags]), expected(12, 4, 2));
-        assert_eq!(placed(&[wide, BYTE, flags, wide]), expected(40, 8, 3));
+        assert_eq!(placed(&[]), (0, 1, 0));
+        assert_eq!(placed(&[BYTE, Reference::U64]), (16, 8, 0));
+        assert_eq!(placed(&[flags]), (1, 1, 1));
+        assert_eq!(placed(&[flags, Reference::U16]), (4, 2, 1));
+        assert_eq!(placed(&[flags, Reference::U32, flags]), (12, 4, 2));
+        assert_eq!(placed(&[wide, BYTE, flags, wide]), (40, 8, 3));
     }
 }
 
@@ -188,11 +187,9 @@ fn long_placements_read_as_many() {
         for pattern in [&[wide][..], &[wide, BYTE, flags], &[BYTE, wide]] {
             let members: Vec<_> = pattern.iter().copied().cycle().take(count).collect();
             let scalars = members.iter().filter(|member| **member == BYTE).count();
-            let mut offsets = vec![0; count];
-            let placed = table.placement(Memory::Memory64, &members, &mut offsets);
-            let Placement { align, reads, .. } = placed.unwrap();
-            let expected = (8, count - scalars);
-            assert_eq!((align, reads as usize), expected, "{count} of {pattern:?}");
+            let placed = table.placement(Memory::Memory64, &members).unwrap();
+            let told = (placed.align, placed.reads as usize);
+            assert_eq!(told, (8, count - scalars), "{count} of {pattern:?}");
         }
     }
 }
@@ -200,7 +197,7 @@ fn long_placements_read_as_many() {
 #[test]
 fn a_placement_shows_its_layout() {
     let (table, [flags, _]) = table_of_two();
-    let placed = table.placement(Memory::Memory32, &[flags], &mut [0]);
+    let placed = table.placement(Memory::Memory32, &[flags]);
     assert_eq!(placed.unwrap().to_string(), "1 bytes, aligned to 1");
 }
 
@@ -221,11 +218,9 @@ fn refusals_are_as_they_were() {
     );
 
     let (table, [flags, wide]) = table_of_two();
-    let mut offsets = [7; 3];
     let members = [flags, wide, Reference::definition(2)];
     assert_eq!(
-        table.placement(Memory::Memory64, &members, &mut offsets),
+        table.placement(Memory::Memory64, &members),
         Err(refused(Refusal::BadRef, Place::Reference(2)))
     );
-    assert_eq!(offsets, [7; 3]);
 }

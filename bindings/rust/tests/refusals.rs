@@ -86,7 +86,7 @@ fn builds() {
         at_definition(
             7,
             1_024,
-            "the buffer has no room for the next row or for all offsets (refusal 7 at \
+            "a buffer has no room for the next row, all offsets or all gaps (refusal 7 at \
              definition 1024)"
         )
     );
@@ -223,16 +223,19 @@ fn questions() {
             "a bad count: no case, more than 512 flags, or a maximum above 16 (refusal 5)"
         )
     );
-    let mut offsets = [7];
+}
+
+/// Only a call in `raw` answers it: a placement of the crate has buffers of its own, as long as its members.
+#[test]
+fn no_room_for_offsets_or_gaps_is_at_no_reference() {
+    let no_room = Refused {
+        refusal: Refusal::NoRoom,
+        place: Place::Reference(0),
+    };
     assert_eq!(
-        refused(table.placement(Memory::Memory32, &[flags, flags], &mut offsets)),
-        at_reference(
-            7,
-            0,
-            "the buffer has no room for the next row or for all offsets (refusal 7)"
-        )
+        no_room.to_string(),
+        "a buffer has no room for the next row, all offsets or all gaps (refusal 7)"
     );
-    assert_eq!(offsets, [7], "a refused placement writes nothing");
 }
 
 #[test]
@@ -242,7 +245,7 @@ fn a_placement_too_large_names_the_member() {
     let table = Table::build(description.words()).unwrap();
     let members = [gigabytes, Reference::U8];
     assert_eq!(
-        refused(table.placement(Memory::Memory64, &members, &mut [0; 2])),
+        refused(table.placement(Memory::Memory64, &members)),
         at_reference(
             6,
             1,

@@ -3,7 +3,7 @@
 use mathlib.Core.Path.{_≡_, refl, sym, ap, _∙_}
 use mathlib.Core.Bool.{true, false}
 use mathlib.Core.Option.{some}
-use Prim.Native.Nat.{ℕ}
+use Prim.Native.Nat.{ℕ, _-_}
 use lib.Dec.{eqb}
 use Rattle.canon.specs.Answer.{is, no, badCount}
 use Rattle.canon.specs.Types.{Ty, variantOf, enumOf, optionOf, resultOf, Case, bare, holding, Cases, ∎, _▸_, count}
@@ -56,7 +56,12 @@ closed kind n cs =
     (λ i. pairOf (record { disc = discriminant n; offset = step mem32 i .start; entry = noLayout }) (record { disc = discriminant n; offset = step mem64 i .start; entry = noLayout }))
     (noReach-join (caseReach cs))
   where
-    step : (m : Memory) → variantStep (discriminant n) (widestOf (record { size = 0; align = 1 }) (payloads m cs)) ≡ record { start = payloadOffset n (payloads m cs); extent = extentAt (variantSize n (payloads m cs)) (variantAlign n (payloads m cs)) }
+    step : (m : Memory) → variantStep (discriminant n) (widestOf (record { size = 0; align = 1 }) (payloads m cs))
+        ≡ record {
+          start = payloadOffset n (payloads m cs);
+          skipped = payloadOffset n (payloads m cs) - discriminant n;
+          extent = extentAt (variantSize n (payloads m cs)) (variantAlign n (payloads m cs));
+        }
     step m = ap (variantStep (discriminant n)) (widest-greatest (payloads m cs)) ∙ variant-reach n (payloads m cs) (payloads-aligned m cs)
 
 -- a type of n cases, laid out and flattened as the variant of the cases cs

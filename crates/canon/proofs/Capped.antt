@@ -16,15 +16,17 @@ use Rattle.canon.specs.Layout.{Memory}
 use Rattle.canon.specs.Row.{Info, rowOf}
 use Rattle.canon.specs.Table.{capacity, place, cell, cellsFrom, rowAt, putFrom, putRows}
 use Rattle.canon.specs.Description.{kindOf, Defined, define, follow, buildFrom, mostWords, build, built, buildAnswer, tableAfter}
-use Rattle.canon.specs.Question.{read, infos, tooMany, noTable, ask, askTwo, layoutsIn, Placing, placed, placing, placementAnswer, bufferAfter, offsetsAfter}
+use Rattle.canon.specs.Question.{read, infos, tooMany, noTable, ask, askTwo, layoutsIn, placing, placementAnswer, bufferAfter}
 use Rattle.canon.specs.Cost.{rowsAmong, reported, placementReads}
+use Rattle.canon.specs.Gaps.{Padded, padded, padding, lentAfter, afterAnswer}
 use Rattle.canon.specs.Types.{Ty}
 use Rattle.canon.proofs.Tests.{neither}
 use Rattle.canon.proofs.Cells.{place-fits, room-fits, rows-there, length-putFrom}
 use Rattle.canon.proofs.Built.{define-some, every-sixteen, built-sound}
 use Rattle.canon.specs.Placement.{Every}
 use Rattle.canon.proofs.Costs.{long-placement}
-use Rattle.canon.proofs.Questions.{past-test, rows-alike, asked-alike, placing-starts, offsets-length}
+use Rattle.canon.proofs.Questions.{past-test, rows-alike, asked-alike}
+use Rattle.canon.proofs.Gaps.{placingOf, padding-placing, padding-gaps}
 
 -- Tests
 
@@ -184,11 +186,17 @@ table-after-first ws t =
 
 -- A placement
 
-placing-first : (m : Memory) (t : List ℕ) (n : ℕ) (ws : List ℕ) (room : ℕ) → placing m (take 16384 t) n (take 16385 ws) (min 16384 room) ≡ placing m t n ws room
-unfolding placing
-placing-first m t n ws room =
-    ask-room t n false (ltb (min 16384 room) (length (take 16385 ws))) (ltb room (length ws)) ws (λ is′. placed (layoutsIn m is′))
+pub padding-first : (m : Memory) (t : List ℕ) (n : ℕ) (ws : List ℕ) (room : ℕ) → padding m (take 16384 t) n (take 16385 ws) (min 16384 room) ≡ padding m t n ws room
+unfolding padding
+padding-first m t n ws room =
+    ask-room t n false (ltb (min 16384 room) (length (take 16385 ws))) (ltb room (length ws)) ws (λ is′. padded (layoutsIn m is′))
     (λ few. rw (list-first ws few) (below-first 16384 room (length ws) (few-length ws few)))
+
+placing-first : (m : Memory) (t : List ℕ) (n : ℕ) (ws : List ℕ) (room : ℕ) → placing m (take 16384 t) n (take 16385 ws) (min 16384 room) ≡ placing m t n ws room
+placing-first m t n ws room =
+    sym (padding-placing m (take 16384 t) n (take 16385 ws) (min 16384 room))
+    ∙ ap placingOf (padding-first m t n ws room)
+    ∙ padding-placing m t n ws room
 
 pub placement-first :
     (m : Memory) (t : List ℕ) (n : ℕ) (ws : List ℕ) (room : ℕ) →
@@ -206,29 +214,34 @@ placement-reads-first m t n ws room = rw (placement-first m t n ws room) (go (to
     go true e = rw (long-placement m t n ws room (ltb-true mostWords (length ws) e))
     go false e = ap (λ (vs : List ℕ). reported (placementAnswer m t n ws room) (rowsAmong vs)) (list-first ws e)
 
-few-offsets : (m : Memory) (t : List ℕ) (n : ℕ) (ws : List ℕ) (room : ℕ) (p : Placing) → placing m t n ws room ≡ ok p → length (p .offsets) ≤ 16384
-few-offsets m t n ws room p e =
-    omega (arith, few-length ws (placing-starts m t n ws room p e .1 .few), offsets-length m t n ws room p e)
-
 behind-first : {A : Type 0} (n c : ℕ) (l : List A) → n ≤ c → drop n (take c l) ++ drop c l ≡ drop n l
 behind-first zero c l h = take-append-drop c l
 behind-first (suc n) zero l h = absurd (omega arith)
 behind-first (suc n) (suc c) [] h = refl
 behind-first (suc n) (suc c) (x ∷ l) h = behind-first n c l (omega arith)
 
--- a buffer whose first c words have room for the offsets
+-- a buffer whose first c words have room for what is written
 pub buffer-front :
-    (c : ℕ) (a : Answer Placing) (out : List ℕ) → ((p : Placing) → a ≡ ok p → length (p .offsets) ≤ c) → bufferAfter a (take c out) ++ drop c out ≡ bufferAfter a out
+    {A : Type 0} (words : A → List ℕ) (c : ℕ) (a : Answer A) (out : List ℕ) → ((p : A) → a ≡ ok p → length (words p) ≤ c) →
+    bufferAfter words a (take c out) ++ drop c out ≡ bufferAfter words a out
 unfolding bufferAfter
-buffer-front c (ok p) out few =
-    append-assoc (p .offsets) (drop (length (p .offsets)) (take c out)) (drop c out)
-    ∙ ap (λ (l : List ℕ). p .offsets ++ l) (behind-first (length (p .offsets)) c out (few p refl))
-buffer-front c (refused x i) out few = take-append-drop c out
+buffer-front words c (ok p) out few =
+    append-assoc (words p) (drop (length (words p)) (take c out)) (drop c out)
+    ∙ ap (λ (l : List ℕ). words p ++ l) (behind-first (length (words p)) c out (few p refl))
+buffer-front words c (refused x i) out few = take-append-drop c out
 
-pub offsets-first :
-    (m : Memory) (t : List ℕ) (n : ℕ) (ws out : List ℕ) →
-    offsetsAfter m (take 16384 t) n (take 16385 ws) (take 16384 out) ++ drop 16384 out ≡ offsetsAfter m t n ws out
-unfolding offsetsAfter
-offsets-first m t n ws out =
-    rw (length-take 16384 out, placing-first m t n ws (length out))
-    (buffer-front 16384 (placing m t n ws (length out)) out (few-offsets m t n ws (length out)))
+-- either buffer, into which a word for each reference is put and no more
+pub lent-first :
+    (words : Padded → List ℕ) (m : Memory) (t : List ℕ) (n : ℕ) (ws : List ℕ) (room : ℕ) (out : List ℕ) →
+    ((q : Padded) → padding m t n ws room ≡ ok q → length (words q) ≡ length ws) →
+    lentAfter words m (take 16384 t) n (take 16385 ws) (min 16384 room) (take 16384 out) ++ drop 16384 out ≡ lentAfter words m t n ws room out
+lent-first words m t n ws room out counted =
+    rw (padding-first m t n ws room)
+    (buffer-front words 16384 (padding m t n ws room) out
+    (λ q e. omega (arith, few-length ws (padding-gaps m t n ws room q e .1 .few), counted q e)))
+
+pub after-first :
+    (m : Memory) (t : List ℕ) (n : ℕ) (ws : List ℕ) (room : ℕ) →
+    afterAnswer m (take 16384 t) n (take 16385 ws) (min 16384 room) ≡ afterAnswer m t n ws room
+unfolding afterAnswer
+after-first m t n ws room = rw (padding-first m t n ws room)

@@ -1,4 +1,4 @@
--- A flat count is the flat list's length up to 16, in either memory, but for the one gap in 01's rule.
+-- A flat count is the flat list's length up to 16, in either memory, but for the one place where 01's rule parts from it.
 use mathlib.Core.Path.{_≡_, refl, sym, ap, _∙_}
 use mathlib.Core.Logic.{_⊎_, inl, inr, ⊎-elim, _↔_}
 use mathlib.Core.Bool.{Bool, true, false, cond}
@@ -17,33 +17,33 @@ use Rattle.canon.proofs.FlatFolds.{length-join, length-copies, maxFlat-
 
 -- 01's rule and the flat list part ways at one place: a fixed list of count 0 over an element without a count, met outside a list or map
 unfoldable mutual
-  pub Gap : Ty → Type 0
-  Gap (scalar s) = ⊥
-  Gap string = ⊥
-  Gap (recordOf ts) = GapIn ts
-  Gap (variantOf cs) = GapAmong cs
-  Gap (listOf t) = ⊥
-  Gap (tupleOf ts) = GapIn ts
-  Gap (mapOf k v) = ⊥
-  Gap (flagsOf n) = ⊥
-  Gap (enumOf n) = ⊥
-  Gap (optionOf t) = Gap t
-  Gap (resultOf ok err) = GapOf ok ⊎ GapOf err
-  Gap (fixedOf t n) = ((n ≡ 0) × (flatCount t ≡ none)) ⊎ Gap t
+  pub Parting : Ty → Type 0
+  Parting (scalar s) = ⊥
+  Parting string = ⊥
+  Parting (recordOf ts) = PartingIn ts
+  Parting (variantOf cs) = PartingAmong cs
+  Parting (listOf t) = ⊥
+  Parting (tupleOf ts) = PartingIn ts
+  Parting (mapOf k v) = ⊥
+  Parting (flagsOf n) = ⊥
+  Parting (enumOf n) = ⊥
+  Parting (optionOf t) = Parting t
+  Parting (resultOf ok err) = PartingOf ok ⊎ PartingOf err
+  Parting (fixedOf t n) = ((n ≡ 0) × (flatCount t ≡ none)) ⊎ Parting t
 
-  pub GapIn : Members → Type 0
-  GapIn ∅ = ⊥
-  GapIn (t ◂ ts) = Gap t ⊎ GapIn ts
+  pub PartingIn : Members → Type 0
+  PartingIn ∅ = ⊥
+  PartingIn (t ◂ ts) = Parting t ⊎ PartingIn ts
 
-  pub GapOf : Case → Type 0
-  GapOf bare = ⊥
-  GapOf (holding t) = Gap t
+  pub PartingOf : Case → Type 0
+  PartingOf bare = ⊥
+  PartingOf (holding t) = Parting t
 
-  pub GapAmong : Cases → Type 0
-  GapAmong ∎ = ⊥
-  GapAmong (c ▸ cs) = GapOf c ⊎ GapAmong cs
+  pub PartingAmong : Cases → Type 0
+  PartingAmong ∎ = ⊥
+  PartingAmong (c ▸ cs) = PartingOf c ⊎ PartingAmong cs
 
--- a count of a list of so many entries: its length up to 16 where there is no gap G, none only where it is longer or has one
+-- a count of a list of so many entries: its length up to 16 where there is no parting G, none only where it is longer or has one
 abbrev Judged : Option ℕ → ℕ → Type 0 → Type 0
 Judged (some n) l G = (l ≡ n) × (n ≤ 16) × (G → ⊥)
 Judged none l G = (16 < l) ⊎ G
@@ -55,7 +55,7 @@ capped-judged n G ng = go (leb n 16) refl
     go true h = (refl, leb-true n 16 h, ng)
     go false h = inl (leb-false n 16 h)
 
--- a part without a count makes the whole longer than 16, too, or has the gap
+-- a part without a count makes the whole longer than 16, too, or has the parting
 left-none : {k l : ℕ} {G H : Type 0} → k ≤ l → (16 < k) ⊎ G → (16 < l) ⊎ (G ⊎ H)
 left-none le = ⊎-elim (λ h. inl (omega arith)) (λ g. inr (inl g))
 
@@ -154,51 +154,51 @@ flags-judged n = rw (flags-length n) (capped-judged (groups n) ⊥ (λ x. x))
 
 module _ (m : Memory) where
   mutual
-    unfolding flatten flatCount Gap sumFlat concat greatestFlat
+    unfolding flatten flatCount Parting sumFlat concat greatestFlat
 
-    judged : (t : Ty) → Judged (flatCount t) (length (flatten m t)) (Gap t)
+    judged : (t : Ty) → Judged (flatCount t) (length (flatten m t)) (Parting t)
     judged (scalar s) = (refl, omega arith, λ x. x)
     judged string = (refl, omega arith, λ x. x)
     judged (recordOf ts) = judged-members ts
-    judged (variantOf cs) = variant-judged (payloadCounts cs) (payloadFlats m cs) (GapAmong cs) (judged-cases cs)
+    judged (variantOf cs) = variant-judged (payloadCounts cs) (payloadFlats m cs) (PartingAmong cs) (judged-cases cs)
     judged (listOf t) = (refl, omega arith, λ x. x)
     judged (tupleOf ts) = judged-members ts
     judged (mapOf k v) = (refl, omega arith, λ x. x)
     judged (flagsOf n) = flags-judged n
     judged (enumOf n) = variant-judged [] [] ⊥ (refl, omega arith, λ x. x)
-    judged (optionOf t) = variant-judged (flatCount t ∷ []) (flatten m t ∷ []) (Gap t) (alone (flatCount t) (flatten m t) (Gap t) (judged t))
+    judged (optionOf t) = variant-judged (flatCount t ∷ []) (flatten m t ∷ []) (Parting t) (alone (flatCount t) (flatten m t) (Parting t) (judged t))
     judged (resultOf ok err) =
-        variant-judged (payloadCount ok ++ payloadCount err) (payloadFlat m ok ++ payloadFlat m err) (GapOf ok ⊎ GapOf err)
-        (together (payloadCount ok) (payloadCount err) (payloadFlat m ok) (payloadFlat m err) (GapOf ok) (GapOf err) (judged-case ok) (judged-case err))
-    judged (fixedOf t n) = rw (length-copies n (flatten m t)) (times-judged (flatCount t) (length (flatten m t)) n (Gap t) (judged t))
+        variant-judged (payloadCount ok ++ payloadCount err) (payloadFlat m ok ++ payloadFlat m err) (PartingOf ok ⊎ PartingOf err)
+        (together (payloadCount ok) (payloadCount err) (payloadFlat m ok) (payloadFlat m err) (PartingOf ok) (PartingOf err) (judged-case ok) (judged-case err))
+    judged (fixedOf t n) = rw (length-copies n (flatten m t)) (times-judged (flatCount t) (length (flatten m t)) n (Parting t) (judged t))
 
-    judged-members : (ts : Members) → Judged (sumFlat (memberCounts ts)) (length (concat (memberFlats m ts))) (GapIn ts)
+    judged-members : (ts : Members) → Judged (sumFlat (memberCounts ts)) (length (concat (memberFlats m ts))) (PartingIn ts)
     judged-members ∅ = (refl, omega arith, λ x. x)
     judged-members (t ◂ ts) =
         rw (length-append (flatten m t) (concat (memberFlats m ts)))
-        (add-judged (flatCount t) (sumFlat (memberCounts ts)) (length (flatten m t)) (length (concat (memberFlats m ts))) (Gap t) (GapIn ts) (judged t) (judged-members ts))
+        (add-judged (flatCount t) (sumFlat (memberCounts ts)) (length (flatten m t)) (length (concat (memberFlats m ts))) (Parting t) (PartingIn ts) (judged t) (judged-members ts))
 
-    judged-case : (c : Case) → Judged (greatestFlat (payloadCount c)) (longest (payloadFlat m c)) (GapOf c)
+    judged-case : (c : Case) → Judged (greatestFlat (payloadCount c)) (longest (payloadFlat m c)) (PartingOf c)
     judged-case bare = (refl, omega arith, λ x. x)
-    judged-case (holding t) = alone (flatCount t) (flatten m t) (Gap t) (judged t)
+    judged-case (holding t) = alone (flatCount t) (flatten m t) (Parting t) (judged t)
 
-    judged-cases : (cs : Cases) → Judged (greatestFlat (payloadCounts cs)) (longest (payloadFlats m cs)) (GapAmong cs)
+    judged-cases : (cs : Cases) → Judged (greatestFlat (payloadCounts cs)) (longest (payloadFlats m cs)) (PartingAmong cs)
     judged-cases ∎ = (refl, omega arith, λ x. x)
     judged-cases (c ▸ cs) =
-        together (payloadCount c) (payloadCounts cs) (payloadFlat m c) (payloadFlats m cs) (GapOf c) (GapAmong cs) (judged-case c) (judged-cases cs)
+        together (payloadCount c) (payloadCounts cs) (payloadFlat m c) (payloadFlats m cs) (PartingOf c) (PartingAmong cs) (judged-case c) (judged-cases cs)
 
--- n exactly when the flat list of either memory has n entries, n is at most 16 and there is no gap
-pub counted : (m : Memory) (t : Ty) (n : ℕ) → (flatCount t ≡ some n) ↔ ((length (flatten m t) ≡ n) × (n ≤ 16) × (Gap t → ⊥))
+-- n exactly when the flat list of either memory has n entries, n is at most 16 and there is no parting
+pub counted : (m : Memory) (t : Ty) (n : ℕ) → (flatCount t ≡ some n) ↔ ((length (flatten m t) ≡ n) × (n ≤ 16) × (Parting t → ⊥))
 counted m t n = (λ e. rw e at (judged m t), back (flatCount t) (judged m t))
   where
-    back : (c : Option ℕ) → Judged c (length (flatten m t)) (Gap t) → (length (flatten m t) ≡ n) × (n ≤ 16) × (Gap t → ⊥) → c ≡ some n
+    back : (c : Option ℕ) → Judged c (length (flatten m t)) (Parting t) → (length (flatten m t) ≡ n) × (n ≤ 16) × (Parting t → ⊥) → c ≡ some n
     back none p q = absurd (⊎-elim (λ (h : 16 < length (flatten m t)). omega arith) (q .2) p)
     back (some k) p q = ap some (omega arith)
 
--- none exactly when it is longer, or the gap is met
-pub uncounted : (m : Memory) (t : Ty) → (flatCount t ≡ none) ↔ ((16 < length (flatten m t)) ⊎ Gap t)
+-- none exactly when it is longer, or the parting is met
+pub uncounted : (m : Memory) (t : Ty) → (flatCount t ≡ none) ↔ ((16 < length (flatten m t)) ⊎ Parting t)
 uncounted m t = (λ e. rw e at (judged m t), back (flatCount t) (judged m t))
   where
-    back : (c : Option ℕ) → Judged c (length (flatten m t)) (Gap t) → (16 < length (flatten m t)) ⊎ Gap t → c ≡ none
+    back : (c : Option ℕ) → Judged c (length (flatten m t)) (Parting t) → (16 < length (flatten m t)) ⊎ Parting t → c ≡ none
     back none p q = refl
     back (some k) p q = absurd (⊎-elim (λ (h : 16 < length (flatten m t)). omega arith) (p .2) q)

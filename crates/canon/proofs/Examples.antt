@@ -15,6 +15,7 @@ use Rattle.canon.specs.Table.{capacity, place, cell, cellsFrom, rowAt, p
 use Rattle.canon.specs.Description.{reference, mark, caseOf, membersOf, casesOf, kindOf, typeOf, isTooLarge, checked, bodied, buildFrom, build, buildAnswer, tableAfter}
 use Rattle.canon.specs.Question.{plainInfo, readRow, read, infos, noTable, ask, askTwo, typeAnswer, firstOver, orSize, refusedAt, judged, placed, placing, placementAnswer}
 use Rattle.canon.specs.Cost.{rowsAmong, referencesFrom, buildReads, placementReads}
+use Rattle.canon.specs.Gaps.{gaps, gapAfter, padded, padding}
 use Rattle.canon.specs.Signature.{Flattened, listed, inMemory, flatAll, atMost, flattenAnswer, Side, Signature, orPointer, startOf, asyncStartAnswer, behindPointer, returned, returnOf, asyncReturnAnswer}
 
 -- what is asked of a description's table, most often of its last definition
@@ -207,3 +208,15 @@ unfolding
     goodLayout goodCount unusedZero goodAbi isDiscriminant isGood capacity place cell cellsFrom putFrom putRows reference kindOf typeOf isTooLarge isTooDeep checked bodied buildFrom build tableAfter
     plainInfo readRow read infos noTable ask firstOver orSize refusedAt judged placed placing placementAnswer rowsAmong placementReads
 placements-hold = refl
+
+-- Gaps before each member, then the one after the last, over a table of a type of no size and alignment 8: record(U8, String, U8) in both memories; that
+-- type behind a U8; a U64 and a U8, where the record's alignment decides and not the last member's; and no members
+pub gaps-hold :
+    map (λ (e : Memory × List ℕ). then (padding (e .0) (tableAfter (10 ∷ 8 ∷ 0 ∷ []) (replicate 16 0)) 1 (e .1) 3) (λ q. ok (q .before ++ q .after ∷ [])))
+    ((mem32, 2 ∷ 12 ∷ 2 ∷ []) ∷ (mem64, 2 ∷ 12 ∷ 2 ∷ []) ∷ (mem32, 2 ∷ 64 ∷ []) ∷ (mem32, 8 ∷ 2 ∷ []) ∷ (mem32, []) ∷ [])
+    ≡ ok (0 ∷ 3 ∷ 0 ∷ 3 ∷ []) ∷ ok (0 ∷ 7 ∷ 0 ∷ 7 ∷ []) ∷ ok (0 ∷ 7 ∷ 0 ∷ []) ∷ ok (0 ∷ 0 ∷ 7 ∷ []) ∷ ok (0 ∷ []) ∷ []
+unfolding
+    atPosition then unless roundUp greatestAlign starts ends lastEnd recordSize layout numbers copies flatten timesFlat flatCount deeper reachWord wordReach goodReach reach pack unpack rowOf flatOf isAlignment
+    goodLayout goodCount unusedZero goodAbi isDiscriminant isGood capacity place cell cellsFrom putFrom putRows reference kindOf typeOf isTooLarge isTooDeep checked bodied buildFrom build tableAfter
+    plainInfo readRow read infos noTable ask firstOver orSize refusedAt judged placed gaps gapAfter padded padding
+gaps-hold = refl

@@ -105,6 +105,23 @@ read-below t n w i e h = go (leb 64 w) (ltb (w - 64) n) refl refl h
     go true false p q h = impossible (cc)
     go false c p q h = omega (arith, leb-false 64 w p)
 
+-- answers that go on
+
+pub then-then : {A B C : Type 0} (a : Answer A) (k : A → Answer B) (l : B → Answer C) → then (then a k) l ≡ then a (λ x. then (k x) l)
+unfolding then
+then-then (ok a) k l = refl
+then-then (refused x p) k l = refl
+
+pub then-ext : {A B : Type 0} (a : Answer A) (k l : A → Answer B) → ((x : A) → k x ≡ l x) → then a k ≡ then a l
+unfolding then
+then-ext (ok a) k l e = e a
+then-ext (refused x p) k l e = refl
+
+pub then-refused : {A B : Type 0} (f : A → B) (a : Answer A) (x i : ℕ) → then a (λ y. ok (f y)) ≡ refused x i → a ≡ refused x i
+unfolding then
+then-refused f (ok y) x i e = impossible (cc)
+then-refused f (refused y j) x i e = cc
+
 -- the infos of a list, one after another
 pub first-ok :
     (p : ℕ) (l : Leaf Info) (a : Answer (List Info)) (is′ : List Info) →
@@ -249,11 +266,11 @@ offsets-length m t n ws room p e =
 
 -- the buffer begins with them
 pub offsets-written :
-    (m : Memory) (t : List ℕ) (n : ℕ) (ws out : List ℕ) (p : Placing) → placing m t n ws (length out) ≡ ok p →
-    take (length ws) (offsetsAfter m t n ws out) ≡ p .offsets
+    (m : Memory) (t : List ℕ) (n : ℕ) (ws : List ℕ) (room : ℕ) (out : List ℕ) (p : Placing) → placing m t n ws room ≡ ok p →
+    take (length ws) (offsetsAfter m t n ws room out) ≡ p .offsets
 unfolding offsetsAfter bufferAfter
-offsets-written m t n ws out p e =
-    rw e (take-at (p .offsets) (drop (length (p .offsets)) out) (length ws) (offsets-length m t n ws (length out) p e))
+offsets-written m t n ws room out p e =
+    rw e (take-at (p .offsets) (drop (length (p .offsets)) out) (length ws) (offsets-length m t n ws room p e))
 
 -- appending references moves no offset before them
 

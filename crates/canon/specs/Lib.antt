@@ -11,5 +11,6 @@ pub mod Table
 pub mod Description
 pub mod Question
 pub mod Cost
+pub mod Gaps
 pub mod Signature
 pub mod Before

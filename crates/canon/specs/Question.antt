@@ -107,20 +107,20 @@ placed fs = judged (refusedAt fs) (record { layout = recordLayout fs; offsets = 
 abbrev pub layoutsIn : Memory → List Info → List Layout
 layoutsIn m is′ = map (infoLayout m) is′
 
--- of references into a lent buffer of `room` words
+-- of references into lent buffers of which the shorter has `room` words
 unfoldable pub placing : Memory → List ℕ → ℕ → List ℕ → ℕ → Answer Placing
 placing m t n ws room = ask t n false (ltb room (length ws)) ws (λ is′. placed (layoutsIn m is′))
 
 unfoldable pub placementAnswer : Memory → List ℕ → ℕ → List ℕ → ℕ → Answer Layout
 placementAnswer m t n ws room = then (placing m t n ws room) (λ p. ok (p .layout))
 
--- the lent buffer afterwards: "later words kept", and a refusal "writes nothing"
-unfoldable pub bufferAfter : Answer Placing → List ℕ → List ℕ
-bufferAfter (ok p) out = p .offsets ++ drop (length (p .offsets)) out
-bufferAfter (refused x p) out = out
+-- a lent buffer afterwards, of an answer that gives it these words: "later words kept", and a refusal "writes nothing"
+unfoldable pub bufferAfter : {A : Type 0} → (A → List ℕ) → Answer A → List ℕ → List ℕ
+bufferAfter words (ok p) out = words p ++ drop (length (words p)) out
+bufferAfter words (refused x p) out = out
 
-unfoldable pub offsetsAfter : Memory → List ℕ → ℕ → List ℕ → List ℕ → List ℕ
-offsetsAfter m t n ws out = bufferAfter (placing m t n ws (length out)) out
+unfoldable pub offsetsAfter : Memory → List ℕ → ℕ → List ℕ → ℕ → List ℕ → List ℕ
+offsetsAfter m t n ws room out = bufferAfter (λ (p : Placing). p .offsets) (placing m t n ws room) out
 
 -- `contains_borrow_resource`: "yes when any parameter reference reaches a Borrow"
 unfoldable pub anyBorrow : List Info → Bool

@@ -9,14 +9,15 @@ use lib.ListN.{length, getD, take, drop, length-take, drop-of-length-le}
 use lib.Seq.{take-all}
 use borrow.Author.Tests.{eq-eqb, ne-eqb}
 use Rattle.canon.specs.Description.{tableAfter}
-use Rattle.canon.specs.Answer.{Answer}
-use Rattle.canon.specs.Cost.{rowsAmong, reported, placementReads}
-use Rattle.canon.specs.Layout.{Memory, Layout}
+use Rattle.canon.specs.Layout.{Memory}
 use Rattle.canon.specs.Signature.{flattenAnswer, asyncStartAnswer, asyncReturnAnswer}
-use Rattle.canon.specs.Question.{borrowAnswer, placementAnswer, offsetsAfter}
-use Rattle.canon.proofs.Capped.{ask-first, askTwo-first, table-after-first, placement-first, offsets-first}
+use Rattle.canon.specs.Answer.{Answer, ok}
+use Rattle.canon.specs.Question.{borrowAnswer, bufferAfter}
+use Rattle.canon.specs.Gaps.{Padded, roomOf, padding, lentAfter}
+use Rattle.canon.proofs.Capped.{ask-first, askTwo-first, table-after-first, placement-first, placement-reads-first, after-first, padding-first, lent-first}
 use Rattle.words.specs.Words.{wholeWords, putWords}
 use Rattle.words.proofs.Laws.{length-whole, front-read, put-rest}
+use Rattle.host.specs.Numbers.{placementCall}
 use Rattle.host.specs.Questions.{questionNumber}
 use Rattle.host.specs.declared.question.Question.{Question}
 use Rattle.host.specs.declared.question.Question.the-variants as question
@@ -63,21 +64,28 @@ question-cut q t n vs ws =
     ∙ ap (λ (u : List ℕ). questionNumber q u n (take 16385 vs) (take 16385 ws)) (cut-twice t)
     ∙ question-first q t n vs ws
 
-pub placement-cut : (m : Memory) (t : List ℕ) (n : ℕ) (ws : List ℕ) (room : ℕ) → placementAnswer m (take 16384 t) n ws room ≡ placementAnswer m t n ws room
-placement-cut m t n ws room =
-    sym (placement-first m (take 16384 t) n ws room)
-    ∙ ap (λ (u : List ℕ). placementAnswer m u n (take 16385 ws) (min 16384 room)) (cut-twice t)
-    ∙ placement-first m t n ws room
+-- A placement, its buffers as well
 
-pub placement-reads-cut : (m : Memory) (t : List ℕ) (n : ℕ) (ws : List ℕ) (room : ℕ) → placementReads m (take 16384 t) n ws room ≡ placementReads m t n ws room
-unfolding placementReads
-placement-reads-cut m t n ws room = ap (λ (a : Answer Layout). reported a (rowsAmong ws)) (placement-cut m t n ws room)
+pub room-first : (c : ℕ) (out gs : List ℕ) → roomOf (take c out) (take c gs) ≡ min c (roomOf out gs)
+room-first c out gs = rw (length-take c out, length-take c gs) (omega arith)
 
-pub offsets-cut : (m : Memory) (t : List ℕ) (n : ℕ) (ws out : List ℕ) → offsetsAfter m (take 16384 t) n ws out ≡ offsetsAfter m t n ws out
-offsets-cut m t n ws out =
-    sym (offsets-first m (take 16384 t) n ws out)
-    ∙ ap (λ (u : List ℕ). offsetsAfter m u n (take 16385 ws) (take 16384 out) ++ drop 16384 out) (cut-twice t)
-    ∙ offsets-first m t n ws out
+pub call-first :
+    (m : Memory) (t : List ℕ) (n : ℕ) (ws : List ℕ) (room : ℕ) → placementCall m (take 16384 t) n (take 16385 ws) (min 16384 room) ≡ placementCall m t n ws room
+call-first m t n ws room = rw (placement-first m t n ws room, placement-reads-first m t n ws room, after-first m t n ws room)
+
+pub call-cut : (m : Memory) (t : List ℕ) (n : ℕ) (ws : List ℕ) (room : ℕ) → placementCall m (take 16384 t) n ws room ≡ placementCall m t n ws room
+call-cut m t n ws room =
+    sym (call-first m (take 16384 t) n ws room)
+    ∙ ap (λ (u : List ℕ). placementCall m u n (take 16385 ws) (min 16384 room)) (cut-twice t)
+    ∙ call-first m t n ws room
+
+pub lent-cut :
+    (words : Padded → List ℕ) (m : Memory) (t : List ℕ) (n : ℕ) (ws : List ℕ) (room : ℕ) (out : List ℕ) → lentAfter words m (take 16384 t) n ws room out ≡ lentAfter words m t n ws room out
+lent-cut words m t n ws room out =
+    ap (λ (a : Answer Padded). bufferAfter words a out)
+    (sym (padding-first m (take 16384 t) n ws room)
+    ∙ ap (λ (u : List ℕ). padding m u n (take 16385 ws) (min 16384 room)) (cut-twice t)
+    ∙ padding-first m t n ws room)
 
 -- the first words of a table or a buffer became x: put back, they leave what the rest, put back as it was, would have left
 pub front-put :
@@ -101,7 +109,9 @@ module _ (x b : List ℕ) (bytes : (i : ℕ) → getD b i 0 < 256) (l : length x
   pub table-put : (ws : List ℕ) → x ≡ tableAfter ws (take 16384 (wholeWords b)) → putWords 0 (take (length b / 4) x) b ≡ putWords 0 (tableAfter ws (wholeWords b)) b
   table-put ws e = front-put 16384 x b bytes l (ap (λ (y : List ℕ). y ++ drop 16384 (wholeWords b)) e ∙ table-after-first ws (wholeWords b))
 
-  pub offsets-put :
-      (m : Memory) (t : List ℕ) (n : ℕ) (ws : List ℕ) → x ≡ offsetsAfter m (take 16384 t) n (take 16385 ws) (take 16384 (wholeWords b)) →
-      putWords 0 (take (length b / 4) x) b ≡ putWords 0 (offsetsAfter m t n ws (wholeWords b)) b
-  offsets-put m t n ws e = front-put 16384 x b bytes l (ap (λ (y : List ℕ). y ++ drop 16384 (wholeWords b)) e ∙ offsets-first m t n ws (wholeWords b))
+  pub lent-put :
+      (words : Padded → List ℕ) (m : Memory) (t : List ℕ) (n : ℕ) (ws : List ℕ) (room : ℕ) → ((q : Padded) → padding m t n ws room ≡ ok q → length (words q) ≡ length ws) →
+      x ≡ lentAfter words m (take 16384 t) n (take 16385 ws) (min 16384 room) (take 16384 (wholeWords b)) →
+      putWords 0 (take (length b / 4) x) b ≡ putWords 0 (lentAfter words m t n ws room (wholeWords b)) b
+  lent-put words m t n ws room counted e =
+      front-put 16384 x b bytes l (ap (λ (y : List ℕ). y ++ drop 16384 (wholeWords b)) e ∙ lent-first words m t n ws room (wholeWords b) counted)

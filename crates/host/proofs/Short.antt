@@ -1,5 +1,5 @@
--- No list among canon's answers has more than 17 types, and no placement an alignment above 8 or a size that is too large.
-use mathlib.Core.Path.{_≡_, refl, sym, _∙_}
+-- No list among canon's answers has more than 17 types, and no placement an alignment above 8, a size that is too large or 8 bytes after its last member.
+use mathlib.Core.Path.{_≡_, refl, sym, ap, _∙_}
 use mathlib.Core.Bool.{Bool, true, false, cond, _||_}
 use mathlib.Core.List.{List, [], _∷_}
 use mathlib.Core.Option.{Option, none, some}
@@ -15,15 +15,17 @@ use Rattle.canon.specs.Layout.{Memory}
 use Rattle.canon.specs.Row.{Info}
 use Rattle.canon.specs.Question.{read, infos, tooMany, noTable, ask, askTwo, Placing, placing, placementAnswer, layoutsIn}
 use Rattle.canon.specs.Signature.{listed, inMemory, flatAll, atMost, flattenAnswer, Side, liftingMax, paramsMax, startOf, asyncStartAnswer, behindPointer, listOrNone, returned, returnOf, asyncReturnAnswer}
+use Rattle.canon.specs.Gaps.{Padded, padding, afterAnswer}
 use Rattle.canon.specs.Types.{Core}
 use Rattle.canon.proofs.Packing.{pack-lt}
 use Rattle.canon.proofs.Questions.{infos-aligned, placing-reads, placing-starts}
 use Rattle.canon.proofs.Refusals.{placed-is}
+use Rattle.canon.proofs.Gaps.{after-below, padding-gaps}
 use Rattle.canon.proofs.Tightest.{greatestAlign-alignment}
 use Rattle.types.proofs.RoundLaws.{alignment-most}
 use Rattle.signature.specs.Packs.{packedList, packedFlat, packedFlattened, packedSignature, packedAnswer}
 use Rattle.signature.proofs.Maxima.{params-short, maximum-small}
-use Rattle.host.specs.Short.{ShortList, ShortFlat, ShortSignature, ShortLayout, IfAnswered}
+use Rattle.host.specs.Short.{ShortList, ShortFlat, ShortSignature, ShortLayout, ShortGap, IfAnswered}
 
 -- Whatever a question answers
 
@@ -74,6 +76,18 @@ placement-short m t n ws room = then-answers ShortLayout (placing m t n ws room)
         let aligned = infos-aligned m t n 0 ws (s .0) (s .1 .gives) in
         let same = placed-is (layoutsIn m (s .0)) p aligned (sym (placing-reads m (s .1)) ∙ e) in
         rw (← same .0) (alignment-most (greatestAlign-alignment (layoutsIn m (s .0)) aligned), same .1)
+
+pub after-short : (m : Memory) (t : List ℕ) (n : ℕ) (ws : List ℕ) (room : ℕ) → IfAnswered ShortGap (afterAnswer m t n ws room)
+unfolding afterAnswer
+after-short m t n ws room = then-answers ShortGap (padding m t n ws room) (λ q. q .after) (go (padding m t n ws room) refl)
+  where
+    go : (a : Answer Padded) → padding m t n ws room ≡ a → IfAnswered (λ q. ShortGap (q .after)) a
+    go (refused x i) e = tt
+    go (ok q) e =
+        let s = padding-gaps m t n ws room q e in
+        let aligned = infos-aligned m t n 0 ws (s .0) (s .1 .gives) in
+        let fs = layoutsIn m (s .0) in
+        omega (arith, ap (λ (p : Padded). p .after) (s .2), after-below fs aligned, alignment-most (greatestAlign-alignment fs aligned))
 
 -- Lists
 

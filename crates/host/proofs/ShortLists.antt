@@ -5,21 +5,23 @@ use mathlib.Core.List.{List, [], _∷_, _++_}
 use Prim.Native.Nat.{ℕ, suc, _≤_, _<_, min}
 use native.Mathlib.Omega.{arith}
 use lib.Dec.{ltb}
-use lib.ListN.{length, getD, take, drop, length-take}
+use lib.ListN.{length, getD, take, drop}
 use borrow.Author.Tests.{le-ltb}
 use Rattle.canon.specs.Answer.{Leaf, Answer, ok, refused, then, unless, badRow}
 use Rattle.canon.specs.Row.{Info}
 use Rattle.canon.specs.Table.{capacity}
 use Rattle.canon.specs.Description.{mostWords}
 use Rattle.canon.specs.Layout.{Memory}
-use Rattle.canon.specs.Question.{read, infos, tooMany, noTable, ask, askTwo, typeAnswer, borrowAnswer, layoutsIn, Placing, placed, placing, placementAnswer, offsetsAfter}
+use Rattle.canon.specs.Question.{read, infos, tooMany, noTable, ask, askTwo, typeAnswer, borrowAnswer, layoutsIn, Placing, placing, placementAnswer}
 use Rattle.canon.specs.Cost.{rowsAmong, reported, placementReads}
+use Rattle.canon.specs.Gaps.{Padded, padded, padding, lentAfter, afterAnswer}
 use Rattle.canon.specs.Signature.{flattenAnswer, asyncStartAnswer, asyncReturnAnswer}
-use Rattle.host.specs.Numbers.{refusalNumber}
+use Rattle.host.specs.Numbers.{refusalNumber, placementCall}
 use Rattle.host.specs.Picked.{readPicked, Names}
 use Rattle.host.specs.Questions.{questionNumber}
 use Rattle.host.proofs.Picked.{no-rows-is}
-use Rattle.canon.proofs.Questions.{placing-starts, offsets-length}
+use Rattle.canon.proofs.Questions.{placing-starts}
+use Rattle.canon.proofs.Gaps.{placingOf, padding-placing}
 use Rattle.canon.proofs.Costs.{infos-rows}
 use Rattle.canon.proofs.Capped.{below-first, buffer-front}
 use Rattle.host.specs.declared.question.Question.{Question}
@@ -46,10 +48,16 @@ pub type-missing : (t : List ℕ) (n w : ℕ) → noTable t n ≡ true → typeA
 unfolding typeAnswer unless
 type-missing t n w e = rw e
 
+pub padding-missing :
+    (memory : Memory) (t : List ℕ) (n : ℕ) (ws : List ℕ) (room : ℕ) → length ws ≤ 16 → noTable t n ≡ true → padding memory t n ws room ≡ refused badRow 0
+unfolding padding
+padding-missing memory t n ws room h e = ask-missing t n false (ltb room (length ws)) ws (λ is′. padded (layoutsIn memory is′)) h e
+
 pub placing-missing :
     (memory : Memory) (t : List ℕ) (n : ℕ) (ws : List ℕ) (room : ℕ) → length ws ≤ 16 → noTable t n ≡ true → placing memory t n ws room ≡ refused badRow 0
-unfolding placing
-placing-missing memory t n ws room h e = ask-missing t n false (ltb room (length ws)) ws (λ is′. placed (layoutsIn memory is′)) h e
+unfolding then
+placing-missing memory t n ws room h e =
+    sym (padding-placing memory t n ws room) ∙ ap placingOf (padding-missing memory t n ws room h e)
 
 pub question-missing :
     (q : Question) (t : List ℕ) (n : ℕ) (vs ws : List ℕ) → length vs ≤ 16 → length ws ≤ 16 → noTable t n ≡ true → questionNumber q t n vs ws ≡ refusalNumber badRow 0
@@ -107,21 +115,23 @@ module _ (p t : List ℕ) (m n : ℕ) (rows : capacity (length p) ≡ m) (there 
     ask-alike b s k = rw (few-names, few ws h, mine, there, named 0)
 
     -- and so many words of a buffer are enough
-    placing-alike : (memory : Memory) (room : ℕ) → placing memory p m us (min 16 room) ≡ placing memory t n ws room
-    unfolding placing
-    placing-alike memory room =
-        ask-alike false (ltb (min 16 room) (length us)) (λ is′. placed (layoutsIn memory is′))
-        ∙ ap (λ (short : Bool). ask t n false short ws (λ is′. placed (layoutsIn memory is′))) (ap (ltb (min 16 room)) (names .count) ∙ below-first 16 room (length ws) h)
+    padding-alike : (memory : Memory) (room : ℕ) → padding memory p m us (min 16 room) ≡ padding memory t n ws room
+    unfolding padding
+    padding-alike memory room =
+        ask-alike false (ltb (min 16 room) (length us)) (λ is′. padded (layoutsIn memory is′))
+        ∙ ap (λ (short : Bool). ask t n false short ws (λ is′. padded (layoutsIn memory is′))) (ap (ltb (min 16 room)) (names .count) ∙ below-first 16 room (length ws) h)
 
-    pub placement-alike : (memory : Memory) (room : ℕ) → placementAnswer memory p m us (min 16 room) ≡ placementAnswer memory t n ws room
-    unfolding placementAnswer
-    placement-alike memory room = rw (placing-alike memory room)
+    placing-alike : (memory : Memory) (room : ℕ) → placing memory p m us (min 16 room) ≡ placing memory t n ws room
+    placing-alike memory room =
+        sym (padding-placing memory p m us (min 16 room))
+        ∙ ap placingOf (padding-alike memory room)
+        ∙ padding-placing memory t n ws room
 
     -- the names are of the form 64+j where the references are
     counts-alike : (is′ : List Info) → infos (read t n) 0 ws ≡ ok is′ → rowsAmong us ≡ rowsAmong ws
     counts-alike is′ e = infos-rows p m mine 0 us is′ (named 0 ∙ e) ∙ sym (infos-rows t n there 0 ws is′ e)
 
-    pub placement-reads-alike : (memory : Memory) (room : ℕ) → placementReads memory p m us (min 16 room) ≡ placementReads memory t n ws room
+    placement-reads-alike : (memory : Memory) (room : ℕ) → placementReads memory p m us (min 16 room) ≡ placementReads memory t n ws room
     unfolding placementReads placementAnswer then
     placement-reads-alike memory room = rw (placing-alike memory room) (go (placing memory t n ws room) refl)
       where
@@ -129,11 +139,15 @@ module _ (p t : List ℕ) (m n : ℕ) (rows : capacity (length p) ≡ m) (there 
         go (refused x i) e = refl
         go (ok q) e = let s = placing-starts memory t n ws room q e in counts-alike (s .0) (s .1 .gives)
 
-    pub offsets-alike : (memory : Memory) (out x : List ℕ) → x ≡ offsetsAfter memory p m us (take 16 out) → x ++ drop 16 out ≡ offsetsAfter memory t n ws out
-    unfolding offsetsAfter
-    offsets-alike memory out x e =
-        rw (e, length-take 16 out, placing-alike memory (length out))
-        (buffer-front 16 (placing memory t n ws (length out)) out (λ q f. omega (arith, offsets-length memory t n ws (length out) q f)))
+    pub call-alike : (memory : Memory) (room : ℕ) → placementCall memory p m us (min 16 room) ≡ placementCall memory t n ws room
+    unfolding placementAnswer afterAnswer
+    call-alike memory room = rw (placement-reads-alike memory room, placing-alike memory room, padding-alike memory room)
+
+    pub lent-alike :
+        (words : Padded → List ℕ) (memory : Memory) (room : ℕ) (out x : List ℕ) → ((q : Padded) → padding memory t n ws room ≡ ok q → length (words q) ≡ length ws) →
+        x ≡ lentAfter words memory p m us (min 16 room) (take 16 out) → x ++ drop 16 out ≡ lentAfter words memory t n ws room out
+    lent-alike words memory room out x counted e =
+        rw (e, padding-alike memory room) (buffer-front words 16 (padding memory t n ws room) out (λ q f. omega (arith, counted q f)))
 
   module _ (slot slot′ : ℕ) (us vs xs ws : List ℕ) (first : Names slot p us t n vs) (second : Names slot′ p xs t n ws) (h : length vs ≤ 16) (l : length ws ≤ 16) where
     askTwo-alike : {A : Type 0} (k : List Info → List Info → Answer A) → askTwo p m us xs k ≡ askTwo t n vs ws k

@@ -89,11 +89,11 @@ pub size-align-one : (κs : Lfts 1) → Single (size-align.Post κs)
 size-align-one κs a r q g h = g ∙ sym h
 
 pub placement-one :
-    (κs : Lfts 3) (x0 : ℕ) (x1 : RefT (List ℕ)) (x2 : ℕ) (x3 x4 : RefT (List ℕ)) (r q : ℕ) (l k : List ℕ) →
-    placement.Post κs (x0, (x1, (x2, (x3, (x4, tt))))) r (x0, (x1, (x2, (x3, (at-last x4 l, tt))))) →
-    placement.Post κs (x0, (x1, (x2, (x3, (x4, tt))))) q (x0, (x1, (x2, (x3, (at-last x4 k, tt))))) →
-    (r ≡ q) × (l ≡ k)
-placement-one κs x0 x1 x2 x3 x4 r q l k g h = (g .0 ∙ sym (h .0), g .1 ∙ sym (h .1))
+    (κs : Lfts 4) (x0 : ℕ) (x1 : RefT (List ℕ)) (x2 : ℕ) (x3 x4 x5 : RefT (List ℕ)) (r q : ℕ) (l k l′ k′ : List ℕ) →
+    placement.Post κs (x0, (x1, (x2, (x3, (x4, (x5, tt)))))) r (x0, (x1, (x2, (x3, (at-last x4 l, (at-last x5 l′, tt)))))) →
+    placement.Post κs (x0, (x1, (x2, (x3, (x4, (x5, tt)))))) q (x0, (x1, (x2, (x3, (at-last x4 k, (at-last x5 k′, tt)))))) →
+    (r ≡ q) × (l ≡ k) × (l′ ≡ k′)
+placement-one κs x0 x1 x2 x3 x4 x5 r q l k l′ k′ g h = (g .0 ∙ sym (h .0), g .1 .0 ∙ sym (h .1 .0), g .1 .1 ∙ sym (h .1 .1))
 
 pub flatten-one : (κs : Lfts 2) → Single (flatten.Post κs)
 flatten-one κs a r q g h = g ∙ sym h
@@ -133,11 +133,11 @@ pub size-align-bytes-one : (κs : Lfts 1) → Single (size-align-bytes.Post κs)
 size-align-bytes-one κs a r q g h = g ∙ sym h
 
 pub placement-bytes-one :
-    (κs : Lfts 3) (x0 : ℕ) (x1 : RefT (List ℕ)) (x2 : ℕ) (x3 x4 : RefT (List ℕ)) (r q : ℕ) (l k : List ℕ) →
-    placement-bytes.Post κs (x0, (x1, (x2, (x3, (x4, tt))))) r (x0, (x1, (x2, (x3, (at-last x4 l, tt))))) →
-    placement-bytes.Post κs (x0, (x1, (x2, (x3, (x4, tt))))) q (x0, (x1, (x2, (x3, (at-last x4 k, tt))))) →
-    (r ≡ q) × (l ≡ k)
-placement-bytes-one κs x0 x1 x2 x3 x4 r q l k g h = (g .0 ∙ sym (h .0), g .1 ∙ sym (h .1))
+    (κs : Lfts 4) (x0 : ℕ) (x1 : RefT (List ℕ)) (x2 : ℕ) (x3 x4 x5 : RefT (List ℕ)) (r q : ℕ) (l k l′ k′ : List ℕ) →
+    placement-bytes.Post κs (x0, (x1, (x2, (x3, (x4, (x5, tt)))))) r (x0, (x1, (x2, (x3, (at-last x4 l, (at-last x5 l′, tt)))))) →
+    placement-bytes.Post κs (x0, (x1, (x2, (x3, (x4, (x5, tt)))))) q (x0, (x1, (x2, (x3, (at-last x4 k, (at-last x5 k′, tt)))))) →
+    (r ≡ q) × (l ≡ k) × (l′ ≡ k′)
+placement-bytes-one κs x0 x1 x2 x3 x4 x5 r q l k l′ k′ g h = (g .0 ∙ sym (h .0), g .1 .0 ∙ sym (h .1 .0), g .1 .1 ∙ sym (h .1 .1))
 
 pub flatten-bytes-one : (κs : Lfts 2) → Single (flatten-bytes.Post κs)
 flatten-bytes-one κs a r q g h = g ∙ sym h

@@ -5,15 +5,16 @@ use mathlib.Core.Option.{Option, none, some}
 use Prim.Native.Nat.{ℕ, _+_, _-_, _*_, _^_, min}
 use lib.Dec.{leb, ltb, eqb}
 use lib.ListN.{length, getD}
-use Rattle.canon.specs.Answer.{Leaf, is, no, Answer, ok, refused}
+use Rattle.canon.specs.Answer.{Leaf, is, no, Answer, ok, refused, then}
 use Rattle.canon.specs.Layout.{Memory, mem32, mem64, Layout}
 use Rattle.canon.specs.Pack.{Packed}
 use Rattle.canon.specs.Row.{Abi, Info, countWord}
 use Rattle.canon.specs.Description.{buildAnswer}
 use Rattle.canon.specs.Question.{placementAnswer}
 use Rattle.canon.specs.Cost.{buildReads, placementReads}
+use Rattle.canon.specs.Gaps.{afterAnswer}
 use Rattle.canon.specs.Signature.{Side}
-use Rattle.types.specs.Leaves.{Field, VariantAbi}
+use Rattle.types.specs.Leaves.{Rounding, Field, VariantAbi}
 use Rattle.signature.specs.Packs.{PackedSignature}
 
 -- Numbers that a host passes
@@ -87,9 +88,13 @@ innerWords v = v .disc ∷ v .offsets .in32 ∷ v .offsets .in64 ∷ []
 abbrev pub variantWords : VariantAbi → List ℕ
 variantWords v = abiWords (v .abi) ++ innerWords v
 
--- "k = 0 the offset, 1 the moved end"
+-- a rounding: "the value in bits 0 to 31, the bytes skipped in bits 32 to 39"
+abbrev pub roundingNumber : Rounding → ℕ
+roundingNumber u = 2 ^ 32 * u .skipped + u .value
+
+-- "k = 0 the offset, 1 the moved end, 2 the bytes skipped"
 abbrev pub fieldWords : Field → List ℕ
-fieldWords f = f .offset ∷ f .end ∷ []
+fieldWords f = f .offset ∷ f .end ∷ f .skipped ∷ []
 
 -- "0 or 1"
 abbrev pub yesNumber : Bool → ℕ
@@ -111,13 +116,14 @@ buildNumber a reads = answerNumber (λ n. 2 ^ 32 * reads + n) a
 abbrev pub buildCall : List ℕ → List ℕ → ℕ
 buildCall ws t = buildNumber (buildAnswer ws t) (buildReads ws t)
 
--- a placement: "the size in bits 0 to 31, the alignment in bits 32 to 35, the rows read back in bits 40 to 55"
-abbrev pub placementNumber : Answer Layout → ℕ → ℕ
-placementNumber a reads = answerNumber (λ f. 2 ^ 40 * reads + layoutNumber f) a
+-- a placement: "the size in bits 0 to 31, the alignment in bits 32 to 35, the gap after the last member in bits 36 to 39, the rows read back in bits 40 to 55"
+-- layout and gap are accepted or refused together (canon/proofs/Gaps.placement-padded)
+abbrev pub placementNumber : Answer Layout → ℕ → Answer ℕ → ℕ
+placementNumber a reads gap = answerNumber itself (then a (λ f. then gap (λ after. ok (2 ^ 40 * reads + 2 ^ 36 * after + layoutNumber f))))
 
--- what a placement in the memory m answers, of the references ws to a table t of n rows, into a buffer of `room` words
+-- what a placement in the memory m answers, of the references ws to a table t of n rows, into buffers of which the shorter has `room` words
 abbrev pub placementCall : Memory → List ℕ → ℕ → List ℕ → ℕ → ℕ
-placementCall m t n ws room = placementNumber (placementAnswer m t n ws room) (placementReads m t n ws room)
+placementCall m t n ws room = placementNumber (placementAnswer m t n ws room) (placementReads m t n ws room) (afterAnswer m t n ws room)
 
 -- a list: "the packed types in bits 0 to 33, two bits each and the first lowest, their count in bits 40 to 47"
 abbrev pub listNumber : Packed → ℕ

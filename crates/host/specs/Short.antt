@@ -1,6 +1,6 @@
--- What an answer's number has room for: of a list, 01: "at most 17"; of a placement, a layout that is not too large. proofs/ carries it from canon's answers.
+-- What an answer's number has room for: of a list, 01: "at most 17"; of a placement, a layout that is not too large and a gap below 8. proofs/ carries it from canon's answers.
 use mathlib.Core.Option.{Option, none, some}
-use Prim.Native.Nat.{_^_, _≤_, _<_}
+use Prim.Native.Nat.{ℕ, _^_, _≤_, _<_}
 use Rattle.canon.specs.Answer.{Answer, ok, refused}
 use Rattle.canon.specs.Layout.{Layout, largestNumber}
 use Rattle.canon.specs.Pack.{Packed}
@@ -18,6 +18,10 @@ ShortSignature s = ShortList (s .params) × ShortList (s .results)
 
 abbrev pub ShortLayout : Layout → Type 0
 ShortLayout f = (f .align ≤ 8) × (f .size ≤ largestNumber)
+
+-- a gap after the last member: below 8, the greatest alignment
+abbrev pub ShortGap : ℕ → Type 0
+ShortGap n = n < 8
 
 -- a fact of the value, where there is one
 abbrev pub IfAnswered : {A : Type 0} → (A → Type 0) → Answer A → Type 0

@@ -5,7 +5,7 @@ ghost use Rattle.canon.specs.Flat.{addFlat, maxFlat};
 ghost use Rattle.canon.specs.Row.{countWord};
 ghost use Rattle.types.specs.Leaves.{alignTo, nextField, discriminantAnswer, flagsAnswer, enumAnswer, fixedAnswer};
 ghost use Rattle.types.specs.Means.{abiMeans, nextMeans};
-ghost use Rattle.host.specs.Numbers.{memoryAt, flatAt, abiAt, leafNumber, itself, chosen, abiWords, fieldWords};
+ghost use Rattle.host.specs.Numbers.{memoryAt, flatAt, abiAt, leafNumber, itself, chosen, abiWords, roundingNumber, fieldWords};
 use crate::given::flat_at;
 use crate::given::info_of;
 use crate::given::memory_at;
@@ -23,7 +23,7 @@ use types::NextField;
 // Refuses BadRow for what is no alignment, then TooLarge for the rounded number.
 #[no_mangle]
 pub extern "C" fn lampughjata_align_to(a: u32, b: u32) -> u64
-    ensures { λ r. ⌜ r ≡ leafNumber itself (alignTo a b) ⌝ }
+    ensures { λ r. ⌜ r ≡ leafNumber roundingNumber (alignTo a b) ⌝ }
 {
     rounded_number(types::align_to(a, b))
 }

@@ -6,10 +6,10 @@ ghost use Rattle.canon.specs.Row.{countWord};
 ghost use Rattle.types.specs.Means.{numberOf, roundedMeans, countMeans, discriminantMeans, layoutMeans, abiMeans, infoAnswerMeans, variantMeans, nextMeans};
 ghost use Rattle.flat_types.specs.Lists.{words};
 ghost use Rattle.build.specs.Means.{builtMeans, builtReads};
-ghost use Rattle.questions.specs.Means.{typeInfoMeans, typeMeans, layoutAnswerMeans, placementMeans, wholeReads};
+ghost use Rattle.questions.specs.Means.{typeInfoMeans, typeMeans, layoutAnswerMeans, placementMeans, wholeReads, afterMeans};
 ghost use Rattle.signature.specs.Means.{flattenedMeans, borrowMeans, signatureAnswerMeans};
-ghost use Rattle.host.specs.Numbers.{refusalNumber, answerNumber, yesNumber, leafNumber, itself, chosen, abiWords, innerWords, fieldWords, typeWords, layoutNumber, buildNumber, placementNumber, listNumber, flattenedNumber, signatureLists};
-ghost use Rattle.host.specs.Short.{ShortList, ShortFlat, ShortSignature, ShortLayout, IfAnswered};
+ghost use Rattle.host.specs.Numbers.{refusalNumber, answerNumber, yesNumber, leafNumber, itself, chosen, abiWords, innerWords, fieldWords, roundingNumber, typeWords, layoutNumber, buildNumber, placementNumber, listNumber, flattenedNumber, signatureLists};
+ghost use Rattle.host.specs.Short.{ShortList, ShortFlat, ShortSignature, ShortLayout, ShortGap, IfAnswered};
 use crate::lent::INFO_WORDS;
 use build::Built;
 use flat_types::FlatList;
@@ -31,17 +31,21 @@ use types::Refusal;
 use types::Rounded;
 use types::VariantAnswer;
 
-// A refusal's number starts at bit 56, a list's count at bit 40, an alignment at bit 32.
+// A refusal's number starts at bit 56, a list's count at bit 40, an alignment at bit 32, and so do the bytes that rounding skips.
 const REFUSAL: u64 = 0x0100_0000_0000_0000;
 
 const COUNT: u64 = 0x0100_0000_0000;
 
 const ALIGN: u64 = 0x0001_0000_0000;
 
-// The rows that a build read back are told from bit 32 on, those of a placement from bit 40 on.
+const SKIPPED: u64 = 0x0001_0000_0000;
+
+// The rows that a build read back are told from bit 32 on, those of a placement from bit 40 on, behind the gap after its last member.
 const BUILD_READS: u64 = 0x0001_0000_0000;
 
 const PLACEMENT_READS: u64 = 0x0100_0000_0000;
+
+const AFTER: u64 = 0x0010_0000_0000;
 
 // Bit 55 alone says "memory", in place of a list.
 const IN_MEMORY: u64 = 0x0080_0000_0000_0000;
@@ -73,10 +77,10 @@ pub(crate) fn choose(words: &[u32], k: u32) -> u64
 }
 
 pub(crate) fn rounded_number(answer: Rounded) -> u64
-    ensures { λ r. ⌜ r ≡ leafNumber itself (roundedMeans answer) ⌝ }
+    ensures { λ r. ⌜ r ≡ leafNumber roundingNumber (roundedMeans answer) ⌝ }
 {
     match answer {
-        Rounded::Value(value) => wide(value),
+        Rounded::Value { value, skipped } => SKIPPED * wide(skipped) + wide(value),
         Rounded::Refused(why) => refused(why, 0),
     }
 }
@@ -147,8 +151,12 @@ pub(crate) fn field_number(answer: NextField, k: u32) -> u64
     ensures { λ r. ⌜ r ≡ leafNumber (λ f. chosen k (fieldWords f)) (nextMeans answer) ⌝ }
 {
     match answer {
-        NextField::At { offset, end } => {
-            let words = [offset, end];
+        NextField::At {
+            offset,
+            end,
+            skipped,
+        } => {
+            let words = [offset, end, skipped];
             choose(&words, k)
         }
         NextField::Refused(why) => refused(why, 0),
@@ -217,13 +225,13 @@ pub(crate) fn layout_number(answer: LayoutAnswer) -> u64
 }
 
 pub(crate) fn placement_number(answer: PlacementAnswer) -> u64
-    requires { ⌜ IfAnswered ShortLayout (placementMeans answer) × (wholeReads answer ≤ 16384) ⌝ }
-    ensures { λ r. ⌜ r ≡ placementNumber (placementMeans answer) (wholeReads answer) ⌝ }
+    requires { ⌜ IfAnswered ShortLayout (placementMeans answer) × (wholeReads answer ≤ 16384) × IfAnswered ShortGap (afterMeans answer) ⌝ }
+    ensures { λ r. ⌜ r ≡ placementNumber (placementMeans answer) (wholeReads answer) (afterMeans answer) ⌝ }
 {
     match answer {
         PlacementAnswer::Whole(whole) => {
             let layout = whole.layout;
-            PLACEMENT_READS * wide(whole.reads) + packed_layout(layout)
+            PLACEMENT_READS * wide(whole.reads) + AFTER * wide(whole.after) + packed_layout(layout)
         }
         PlacementAnswer::Refused(why, position) => refused(why, position.0),
     }

@@ -4,6 +4,7 @@ ghost use mathlib.Core.Path.{_≡_};
 ghost use lib.ListN.{length, take};
 ghost use Prim.Native.Nat.{_/_, _≤_};
 ghost use Rattle.canon.specs.Question.{typeAnswer, sizeAlignAnswer, offsetsAfter};
+ghost use Rattle.canon.specs.Gaps.{roomOf, gapsAfter};
 ghost use Rattle.words.specs.Words.{wholeWords, putWords};
 ghost use Rattle.host.specs.Numbers.{memoryAt, answerNumber, chosen, typeWords, layoutNumber, placementCall};
 use crate::packing::refused;
@@ -59,43 +60,68 @@ fn place_into(
     rows: u32,
     references: &[u32],
     offsets: &mut [u32],
-    bytes: &mut [u8],
+    gaps: &mut [u32],
+    offset_bytes: &mut [u8],
+    gap_bytes: &mut [u8],
 ) -> u64
-    ensures { λ r. ⌜ r ≡ placementCall (memoryAt memory) (now (table .entry)) rows (now (references .entry)) (length (now (offsets .entry))) ⌝ }
-    ensures { λ _. ⌜ (now (offsets .exit) ≡ offsetsAfter (memoryAt memory) (now (table .entry)) rows (now (references .entry)) (now (offsets .entry))) × (length (now (offsets .exit)) ≡ length (now (offsets .entry))) ⌝ }
-    ensures { λ _. ⌜ now (bytes .exit) ≡ putWords 0 (take (length (now (bytes .entry)) / 4) (now (offsets .exit))) (now (bytes .entry)) ⌝ }
+    ensures { λ r. ⌜ r ≡ placementCall (memoryAt memory) (now (table .entry)) rows (now (references .entry)) (roomOf (now (offsets .entry)) (now (gaps .entry))) ⌝ }
+    ensures { λ _. ⌜ (now (offsets .exit) ≡ offsetsAfter (memoryAt memory) (now (table .entry)) rows (now (references .entry)) (roomOf (now (offsets .entry)) (now (gaps .entry))) (now (offsets .entry))) × (length (now (offsets .exit)) ≡ length (now (offsets .entry))) ⌝ }
+    ensures { λ _. ⌜ (now (gaps .exit) ≡ gapsAfter (memoryAt memory) (now (table .entry)) rows (now (references .entry)) (roomOf (now (offsets .entry)) (now (gaps .entry))) (now (gaps .entry))) × (length (now (gaps .exit)) ≡ length (now (gaps .entry))) ⌝ }
+    ensures { λ _. ⌜ now («offset_bytes» .exit) ≡ putWords 0 (take (length (now («offset_bytes» .entry)) / 4) (now (offsets .exit))) (now («offset_bytes» .entry)) ⌝ }
+    ensures { λ _. ⌜ now («gap_bytes» .exit) ≡ putWords 0 (take (length (now («gap_bytes» .entry)) / 4) (now (gaps .exit))) (now («gap_bytes» .entry)) ⌝ }
 {
-    let answer = lampughjata_placement(memory, table, rows, references, offsets);
-    put_words(offsets, bytes);
+    let answer = lampughjata_placement(memory, table, rows, references, offsets, gaps);
+    put_words(offsets, offset_bytes);
+    put_words(gaps, gap_bytes);
     answer
 }
 
-// No offset stands beyond the word 16,384 of a buffer.
-fn place_whole(memory: u32, table: &[u8], rows: u32, references: &[u8], offsets: &mut [u8]) -> u64
-    ensures { λ r. ⌜ r ≡ placementCall (memoryAt memory) (wholeWords (now (table .entry))) rows (wholeWords (now (references .entry))) (length (wholeWords (now (offsets .entry)))) ⌝ }
-    ensures { λ _. ⌜ now (offsets .exit) ≡ putWords 0 (offsetsAfter (memoryAt memory) (wholeWords (now (table .entry))) rows (wholeWords (now (references .entry))) (wholeWords (now (offsets .entry)))) (now (offsets .entry)) ⌝ }
+// No offset and no gap stands beyond the word 16,384 of a buffer.
+fn place_whole(
+    memory: u32,
+    table: &[u8],
+    rows: u32,
+    references: &[u8],
+    offsets: &mut [u8],
+    gaps: &mut [u8],
+) -> u64
+    ensures { λ r. ⌜ r ≡ placementCall (memoryAt memory) (wholeWords (now (table .entry))) rows (wholeWords (now (references .entry))) (roomOf (wholeWords (now (offsets .entry))) (wholeWords (now (gaps .entry)))) ⌝ }
+    ensures { λ _. ⌜ now (offsets .exit) ≡ putWords 0 (offsetsAfter (memoryAt memory) (wholeWords (now (table .entry))) rows (wholeWords (now (references .entry))) (roomOf (wholeWords (now (offsets .entry))) (wholeWords (now (gaps .entry)))) (wholeWords (now (offsets .entry)))) (now (offsets .entry)) ⌝ }
+    ensures { λ _. ⌜ now (gaps .exit) ≡ putWords 0 (gapsAfter (memoryAt memory) (wholeWords (now (table .entry))) rows (wholeWords (now (references .entry))) (roomOf (wholeWords (now (offsets .entry))) (wholeWords (now (gaps .entry)))) (wholeWords (now (gaps .entry)))) (now (gaps .entry)) ⌝ }
 {
     let mut ts = [0u32; TABLE_WORDS];
     let room = words_of(table, &mut ts);
     let mut rs = [0u32; MOST_REFERENCES + 1];
     let count = words_of(references, &mut rs);
     let mut os = [0u32; MOST_REFERENCES];
-    let length = words_of(offsets, &mut os);
+    let offset_room = words_of(offsets, &mut os);
+    let mut gs = [0u32; MOST_REFERENCES];
+    let gap_room = words_of(gaps, &mut gs);
     place_into(
         memory,
         &ts[..room],
         rows,
         &rs[..count],
-        &mut os[..length],
+        &mut os[..offset_room],
+        &mut gs[..gap_room],
         offsets,
+        gaps,
     )
 }
 
-// No offset stands beyond the word 16 of a buffer.
-fn place_picked(memory: u32, table: &[u8], rows: u32, references: &[u8], offsets: &mut [u8]) -> u64
+// No offset and no gap stands beyond the word 16 of a buffer.
+fn place_picked(
+    memory: u32,
+    table: &[u8],
+    rows: u32,
+    references: &[u8],
+    offsets: &mut [u8],
+    gaps: &mut [u8],
+) -> u64
     requires { ⌜ length (now references) / 4 ≤ 16 ⌝ }
-    ensures { λ r. ⌜ r ≡ placementCall (memoryAt memory) (wholeWords (now (table .entry))) rows (wholeWords (now (references .entry))) (length (wholeWords (now (offsets .entry)))) ⌝ }
-    ensures { λ _. ⌜ now (offsets .exit) ≡ putWords 0 (offsetsAfter (memoryAt memory) (wholeWords (now (table .entry))) rows (wholeWords (now (references .entry))) (wholeWords (now (offsets .entry)))) (now (offsets .entry)) ⌝ }
+    ensures { λ r. ⌜ r ≡ placementCall (memoryAt memory) (wholeWords (now (table .entry))) rows (wholeWords (now (references .entry))) (roomOf (wholeWords (now (offsets .entry))) (wholeWords (now (gaps .entry)))) ⌝ }
+    ensures { λ _. ⌜ now (offsets .exit) ≡ putWords 0 (offsetsAfter (memoryAt memory) (wholeWords (now (table .entry))) rows (wholeWords (now (references .entry))) (roomOf (wholeWords (now (offsets .entry))) (wholeWords (now (gaps .entry)))) (wholeWords (now (offsets .entry)))) (now (offsets .entry)) ⌝ }
+    ensures { λ _. ⌜ now (gaps .exit) ≡ putWords 0 (gapsAfter (memoryAt memory) (wholeWords (now (table .entry))) rows (wholeWords (now (references .entry))) (roomOf (wholeWords (now (offsets .entry))) (wholeWords (now (gaps .entry)))) (wholeWords (now (gaps .entry)))) (now (gaps .entry)) ⌝ }
 {
     if no_rows(table, rows) {
         return refused(Refusal::BadRow, 0);
@@ -104,14 +130,18 @@ fn place_picked(memory: u32, table: &[u8], rows: u32, references: &[u8], offsets
     let mut rs = [0u32; SHORT_LIST];
     let count = pick_rows(table, rows, references, &mut picked, 0, &mut rs);
     let mut os = [0u32; SHORT_LIST];
-    let length = words_of(offsets, &mut os);
+    let offset_room = words_of(offsets, &mut os);
+    let mut gs = [0u32; SHORT_LIST];
+    let gap_room = words_of(gaps, &mut gs);
     place_into(
         memory,
         &picked,
         SLOTS,
         &rs[..count],
-        &mut os[..length],
+        &mut os[..offset_room],
+        &mut gs[..gap_room],
         offsets,
+        gaps,
     )
 }
 
@@ -123,9 +153,11 @@ pub extern "C" fn lampughjata_placement_bytes(
     rows: u32,
     references: &[u8],
     offsets: &mut [u8],
+    gaps: &mut [u8],
 ) -> u64
-    ensures { λ r. ⌜ r ≡ placementCall (memoryAt memory) (wholeWords (now (table .entry))) rows (wholeWords (now (references .entry))) (length (wholeWords (now (offsets .entry)))) ⌝ }
-    ensures { λ _. ⌜ now (offsets .exit) ≡ putWords 0 (offsetsAfter (memoryAt memory) (wholeWords (now (table .entry))) rows (wholeWords (now (references .entry))) (wholeWords (now (offsets .entry)))) (now (offsets .entry)) ⌝ }
+    ensures { λ r. ⌜ r ≡ placementCall (memoryAt memory) (wholeWords (now (table .entry))) rows (wholeWords (now (references .entry))) (roomOf (wholeWords (now (offsets .entry))) (wholeWords (now (gaps .entry)))) ⌝ }
+    ensures { λ _. ⌜ now (offsets .exit) ≡ putWords 0 (offsetsAfter (memoryAt memory) (wholeWords (now (table .entry))) rows (wholeWords (now (references .entry))) (roomOf (wholeWords (now (offsets .entry))) (wholeWords (now (gaps .entry)))) (wholeWords (now (offsets .entry)))) (now (offsets .entry)) ⌝ }
+    ensures { λ _. ⌜ now (gaps .exit) ≡ putWords 0 (gapsAfter (memoryAt memory) (wholeWords (now (table .entry))) rows (wholeWords (now (references .entry))) (roomOf (wholeWords (now (offsets .entry))) (wholeWords (now (gaps .entry)))) (wholeWords (now (gaps .entry)))) (now (gaps .entry)) ⌝ }
 {
     if table.len() > TABLE_BYTES {
         return lampughjata_placement_bytes(
@@ -134,10 +166,11 @@ pub extern "C" fn lampughjata_placement_bytes(
             rows,
             references,
             offsets,
+            gaps,
         );
     }
     if references.len() / 4 > SHORT_LIST {
-        return place_whole(memory, table, rows, references, offsets);
+        return place_whole(memory, table, rows, references, offsets, gaps);
     }
-    place_picked(memory, table, rows, references, offsets)
+    place_picked(memory, table, rows, references, offsets, gaps)
 }

@@ -1,8 +1,8 @@
 // These calls build a table and ask it for types and layouts, over words. Of a bad reference BadRef comes before BadRow.
 ghost use mathlib.Core.Path.{_≡_};
-ghost use lib.ListN.{length};
 ghost use Rattle.canon.specs.Description.{tableAfter};
 ghost use Rattle.canon.specs.Question.{typeAnswer, sizeAlignAnswer, offsetsAfter};
+ghost use Rattle.canon.specs.Gaps.{roomOf, gapsAfter};
 ghost use Rattle.host.specs.Numbers.{memoryAt, answerNumber, chosen, typeWords, layoutNumber, buildCall, placementCall};
 use crate::given::memory_at;
 use crate::packing::built_number;
@@ -43,7 +43,7 @@ pub extern "C" fn lampughjata_size_align(
     layout_number(size_align(memory_at(memory), table, rows, reference))
 }
 
-// Refuses TooLong, then BadRow for the table, then NoRoom, then the first bad reference, then TooLarge in its memory.
+// Refuses TooLong, then BadRow for the table, then NoRoom for either buffer, then the first bad reference, then TooLarge in its memory.
 #[no_mangle]
 pub extern "C" fn lampughjata_placement(
     memory: u32,
@@ -51,9 +51,11 @@ pub extern "C" fn lampughjata_placement(
     rows: u32,
     references: &[u32],
     offsets: &mut [u32],
+    gaps: &mut [u32],
 ) -> u64
-    ensures { λ r. ⌜ r ≡ placementCall (memoryAt memory) (now (table .entry)) rows (now (references .entry)) (length (now (offsets .entry))) ⌝ }
-    ensures { λ _. ⌜ now (offsets .exit) ≡ offsetsAfter (memoryAt memory) (now (table .entry)) rows (now (references .entry)) (now (offsets .entry)) ⌝ }
+    ensures { λ r. ⌜ r ≡ placementCall (memoryAt memory) (now (table .entry)) rows (now (references .entry)) (roomOf (now (offsets .entry)) (now (gaps .entry))) ⌝ }
+    ensures { λ _. ⌜ now (offsets .exit) ≡ offsetsAfter (memoryAt memory) (now (table .entry)) rows (now (references .entry)) (roomOf (now (offsets .entry)) (now (gaps .entry))) (now (offsets .entry)) ⌝ }
+    ensures { λ _. ⌜ now (gaps .exit) ≡ gapsAfter (memoryAt memory) (now (table .entry)) rows (now (references .entry)) (roomOf (now (offsets .entry)) (now (gaps .entry))) (now (gaps .entry)) ⌝ }
 {
-    placement_number(placement(memory_at(memory), table, rows, references, offsets))
+    placement_number(placement(memory_at(memory), table, rows, references, offsets, gaps))
 }

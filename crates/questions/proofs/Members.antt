@@ -1,51 +1,51 @@
--- Placement: after any members the code's state is canon's last end, starts and first member over, and closing it is canon's answer.
+-- Placement: after any members the code's state is canon's last end, starts, gaps and first member over, and closing it is canon's answer.
 use mathlib.Core.Path.{_≡_, refl, sym, ap, _∙_}
 use mathlib.Core.Bool.{Bool, true, false, cond, _||_, or-true}
-use mathlib.Core.List.{List, [], _∷_, _++_, append-assoc}
+use mathlib.Core.List.{List, [], _∷_, _++_, map-append}
 use mathlib.Core.Option.{Option, none, some}
-use Prim.Native.Nat.{ℕ, suc, _+_, _%_, _≤_, _<_, max, min}
-use native.Mathlib.Nat.{add-zero, zero-add, mod-eq-of-lt}
+use Prim.Native.Nat.{ℕ, suc, _+_, _-_, _%_, _≤_, _<_, max, min}
+use native.Mathlib.Nat.{add-zero, zero-add, mod-eq-of-lt, mod-lt}
 use native.Mathlib.Numerals.{add-one}
 use native.Mathlib.Decide.{decLe}
 use native.Mathlib.Omega.{arith}
 use lib.Dec.{ltb}
-use lib.ListN.{length, getD, take, drop, set, length-append}
-use lib.Seq.{drop-cons, take-suc, take-suc-set, length-take-le, set-at}
+use lib.ListN.{length, take, drop, set, length-append}
+use lib.Seq.{take-suc-set}
 use borrow.Author.Tests.{lt-ltb, le-ltb}
 use Rattle.canon.specs.Answer.{Answer, ok, refused, then}
 use Rattle.canon.specs.Layout.{Memory, within, Layout, roundUp, starts, lastEnd, greatestAlign, recordSize, largestNumber}
 use Rattle.canon.specs.Row.{Info}
 use Rattle.canon.specs.Question.{firstOver, orSize, refusedAt, Placing, judged, placed, layoutsIn, bufferAfter}
+use Rattle.canon.specs.Gaps.{skippedTo, gaps, gapAfter, Padded, padded, offsetsOf, gapsOf}
 use Rattle.canon.proofs.Tests.{impossible}
 use Rattle.canon.proofs.Rounding.{Alignment, le-roundUp, alignment-pos}
 use Rattle.canon.proofs.Tightest.{Aligned, le-recordSize, greatestAlign-alignment}
 use Rattle.canon.proofs.Wider.{starts-append}
 use Rattle.canon.proofs.Refusals.{placed-is}
+use Rattle.canon.proofs.Gaps.{gaps-append, padded-ok, padded-is}
 use Rattle.canon.specs.Placement.{fourGiB}
-use Rattle.types.specs.Extents.{extentAt, memberOf, closeOf, isLarge}
+use Rattle.types.specs.Extents.{extentAt, memberOf, closing, isLarge}
 use Rattle.types.specs.declared.extent.Extent.{Extent}
 use Rattle.types.specs.declared.extent.Step.{Step}
-use Rattle.types.proofs.ExtentLaws.{reach-is, reach-large, member-reach, close-reach}
-use Rattle.questions.specs.Steps.{startPlace, nextPlace, finished, layoutPart}
+use Rattle.types.proofs.ExtentLaws.{reach-is, reach-large, stepReach, member-reach, closing-reach}
+use Rattle.questions.specs.Means.{pairOf, halfOf, halves}
+use Rattle.questions.specs.Steps.{startPlace, nextPlace, finished, finishedGap, layoutPart, afterPart}
+use Rattle.questions.specs.declared.pair.Half.{Half}
+use Rattle.questions.specs.declared.pair.Half.the-variants.{Low, High}
 use Rattle.questions.specs.declared.placed.Placed.{Placed}
-
--- a turn of the copy
-pub copy-turn : (s d : List ℕ) (i : ℕ) → i < length s → i < length d → set (take i s ++ drop i d) i (getD s i 0) ≡ take (i + 1) s ++ drop (i + 1) d
-copy-turn s d i h k =
-    rw (add-one i, drop-cons d i 0 k, take-suc s i 0 h, append-assoc (take i s) (getD s i 0 ∷ []) (drop (suc i) d))
-    (set-at (take i s) (getD d i 0) (drop (suc i) d) (getD s i 0) i (length-take-le i s (omega arith)))
+use Rattle.questions.proofs.Memos.{pair-back}
 
 -- an answer comes of a placement, and a refusal writes nothing
 
-pub answered : (a : Answer Placing) (f : Layout) → ok f ≡ layoutPart a → (p : Placing) × (a ≡ ok p)
+pub answered : (a : Answer Padded) (f : Layout) → ok f ≡ layoutPart a → (q : Padded) × (a ≡ ok q)
 unfolding then
-answered (ok p) f e = (p, refl)
-answered (refused x q) f e = impossible (cc)
+answered (ok q) f e = (q, refl)
+answered (refused x p) f e = impossible (cc)
 
-pub untouched : (a : Answer Placing) (x p : ℕ) (out : List ℕ) → refused x p ≡ layoutPart a → out ≡ bufferAfter a out
+pub untouched : (words : Padded → List ℕ) (a : Answer Padded) (x p : ℕ) (out : List ℕ) → refused x p ≡ layoutPart a → out ≡ bufferAfter words a out
 unfolding then bufferAfter
-untouched (ok q) x p out e = impossible (cc)
-untouched (refused y q) x p out e = refl
+untouched words (ok q) x p out e = impossible (cc)
+untouched words (refused y q) x p out e = refl
 
 -- One member more at the end
 
@@ -95,9 +95,9 @@ pub record Stands (p : Placed) (fs : List Layout) (k : ℕ) : Type 0 where
   pub within : lastEnd 0 fs ≤ largestNumber → firstOver 0 0 fs ≡ none
   pub beyond : largestNumber < lastEnd 0 fs → firstOver 0 0 fs ≡ some (p .over .0)
 
--- offsets staged so far: they count only while all fits
-abbrev pub Staged : List ℕ → List Layout → Type 0
-Staged os fs = lastEnd 0 fs ≤ largestNumber → os ≡ starts 0 fs
+-- offsets and gaps staged so far: they count only while all fits
+abbrev pub Staged : List ℕ → List ℕ → List Layout → Type 0
+Staged os gs fs = lastEnd 0 fs ≤ largestNumber → (os ≡ starts 0 fs) × (gs ≡ gaps 0 fs)
 
 pub nothing-stands : Stands startPlace [] 0
 unfolding lastEnd firstOver greatestAlign
@@ -116,7 +116,7 @@ module _ (p : Placed) (fs : List Layout) (k : ℕ) (s : Stands p fs k) where
     end = lastEnd 0 more
 
     moves : memberOf (p .extent) f
-        ≡ record { start = min (roundUp (lastEnd 0 fs) (f .align)) fourGiB; extent = extentAt (roundUp (lastEnd 0 fs) (f .align) + f .size) (max (greatestAlign fs) (f .align)) }
+        ≡ stepReach (lastEnd 0 fs) (roundUp (lastEnd 0 fs) (f .align)) (roundUp (lastEnd 0 fs) (f .align) + f .size) (max (greatestAlign fs) (f .align))
     moves = ap (λ (x : Extent). memberOf x f) (s .extent) ∙ member-reach (lastEnd 0 fs) (greatestAlign fs) f a
 
     extent-is : q .extent ≡ extentAt end (greatestAlign more)
@@ -180,39 +180,72 @@ module _ (p : Placed) (fs : List Layout) (k : ℕ) (s : Stands p fs k) where
         ap (λ (x : Placed). x .offset) e ∙ ap (λ (x : Step). x .start % fourGiB) moves
         ∙ rw n (mod-eq-of-lt (omega arith))
 
-    pub staged-last : (os : List ℕ) → Staged os fs → Staged (os ++ q .offset ∷ []) more
-    unfolding starts
-    staged-last os t g = rw (starts-append 0 fs (f ∷ []), t (earlier g), starts-at g)
+    -- and its gap is what it skips
+    gap-at : end ≤ largestNumber → q .gap ≡ skippedTo (lastEnd 0 fs) (f .align)
+    unfolding nextPlace
+    gap-at h =
+        let g : roundUp (lastEnd 0 fs) (f .align) + f .size ≤ largestNumber = rw end-more at h in
+        ap (λ (x : Placed). x .gap) e ∙ ap (λ (x : Step). x .skipped) moves
+        ∙ omega (arith, grown)
 
-    pub staged-more : (stage : List ℕ) → Staged (take k stage) fs → k < length stage → Staged (take (k + 1) (set stage k (q .offset))) more
-    staged-more stage t l = rw (add-one k, take-suc-set stage k (q .offset) l) (staged-last (take k stage) t)
+    pub staged-last : (os gs : List ℕ) → Staged os gs fs → Staged (os ++ q .offset ∷ []) (gs ++ q .gap ∷ []) more
+    unfolding starts gaps
+    staged-last os gs t g =
+        let so-far = t (earlier g) in (
+          rw (starts-append 0 fs (f ∷ []), so-far .0, starts-at g),
+          rw (gaps-append 0 fs (f ∷ []), so-far .1, gap-at g),
+        )
+
+    -- in pairs
+
+    abbrev word : ℕ
+    word = pairOf (q .offset) (q .gap)
+
+    cut : q .offset < fourGiB
+    unfolding nextPlace
+    cut = rw (ap (λ (x : Placed). x .offset) e) (mod-lt _ (omega arith))
+
+    last-half : (half : Half) (stage : List ℕ) → k < length stage → halves half (take (k + 1) (set stage k word)) ≡ halves half (take k stage) ++ halfOf half word ∷ []
+    last-half half stage l = rw (add-one k, take-suc-set stage k word l) (map-append (halfOf half) (take k stage) (word ∷ []))
+
+    pub staged-more :
+        (stage : List ℕ) → Staged (halves Low (take k stage)) (halves High (take k stage)) fs → k < length stage →
+        Staged (halves Low (take (k + 1) (set stage k word))) (halves High (take (k + 1) (set stage k word))) more
+    staged-more stage t l =
+        let back = pair-back (q .offset) (q .gap) cut in
+        rw (last-half Low stage l, last-half High stage l, back .0, back .1) (staged-last (halves Low (take k stage)) (halves High (take k stage)) t)
 
   -- Closed, it is canon's answer
 
-  closes : closeOf (p .extent) ≡ extentAt (recordSize fs) (greatestAlign fs)
+  closes : closing (p .extent) ≡ stepReach (lastEnd 0 fs) (recordSize fs) (recordSize fs) (greatestAlign fs)
   unfolding recordSize
-  closes = ap closeOf (s .extent) ∙ close-reach (lastEnd 0 fs) (greatestAlign fs) (greatestAlign-alignment fs (s .aligned))
+  closes = ap closing (s .extent) ∙ closing-reach (lastEnd 0 fs) (greatestAlign fs) (greatestAlign-alignment fs (s .aligned))
 
-  pub finish-is : finished p ≡ layoutPart (placed fs)
-  unfolding finished placed judged refusedAt orSize then
+  pub finish-is : (finished p ≡ layoutPart (padded fs)) × (finishedGap p ≡ afterPart (padded fs))
+  unfolding finishedGap finished padded placed judged refusedAt orSize then
   finish-is =
       elim (decLe (lastEnd 0 fs) largestNumber) [
-        | no l ↦ rw (large, lt-ltb largestNumber (lastEnd 0 fs) (omega arith), s .beyond (omega arith))
+        | no l ↦ rw (large, lt-ltb largestNumber (lastEnd 0 fs) (omega arith), s .beyond (omega arith)) (refl, refl)
         | yes l ↦ elim (decLe (recordSize fs) largestNumber) [
-          | yes h ↦ rw (large, le-ltb largestNumber (lastEnd 0 fs) l, s .within l, closes, le-ltb largestNumber (recordSize fs) h, reach-is (recordSize fs) (greatestAlign fs) (omega arith), le-ltb largestNumber (recordSize fs) h)
-          | no h ↦ rw (large, le-ltb largestNumber (lastEnd 0 fs) l, s .within l, closes, reach-large (recordSize fs) (greatestAlign fs), lt-ltb largestNumber (recordSize fs) (omega arith))
+          | yes h ↦
+              let gap : min (recordSize fs) fourGiB - min (lastEnd 0 fs) fourGiB ≡ gapAfter fs = unfold gapAfter in omega arith in
+              rw (large, le-ltb largestNumber (lastEnd 0 fs) l, s .within l, closes, gap, reach-is (recordSize fs) (greatestAlign fs) (omega arith), le-ltb largestNumber (recordSize fs) h) (refl, refl)
+          | no h ↦ rw (large, le-ltb largestNumber (lastEnd 0 fs) l, s .within l, closes, reach-large (recordSize fs) (greatestAlign fs), lt-ltb largestNumber (recordSize fs) (omega arith)) (refl, refl)
         ]
       ]
 
-  -- an accepted placement is of canon's starts, and all of them fit
-  pub placed-starts : (q : Placing) → placed fs ≡ ok q → (q .offsets ≡ starts 0 fs) × (lastEnd 0 fs ≤ largestNumber)
+  -- an accepted placement is of canon's starts and gaps, and all of them fit
+  pub placed-starts : (q : Padded) → padded fs ≡ ok q → (offsetsOf q ≡ starts 0 fs) × (gapsOf q ≡ gaps 0 fs) × (lastEnd 0 fs ≤ largestNumber)
   placed-starts q e =
-      let r = placed-is fs q (s .aligned) e in
-      (sym (ap (λ (y : Placing). y .offsets) (r .0)), omega (arith, r .1, le-recordSize fs (s .aligned)))
+      let r = placed-is fs (q .placing) (s .aligned) (padded-ok fs q e) in (
+        sym (ap (λ (y : Placing). y .offsets) (r .0)),
+        ap (λ (y : Padded). y .before) (padded-is fs q e),
+        omega (arith, r .1, le-recordSize fs (s .aligned)),
+      )
 
--- what was put in front of the buffer is what an accepted placement leaves there
+-- what was put in front of a buffer is what an accepted placement leaves there
 pub written :
-    (a : Answer Placing) (p : Placing) (os out after : List ℕ) (n : ℕ) →
-    a ≡ ok p → p .offsets ≡ os → length os ≡ n → after ≡ os ++ drop n out → after ≡ bufferAfter a out
+    (words : Padded → List ℕ) (a : Answer Padded) (q : Padded) (os out after : List ℕ) (n : ℕ) →
+    a ≡ ok q → words q ≡ os → length os ≡ n → after ≡ os ++ drop n out → after ≡ bufferAfter words a out
 unfolding bufferAfter
-written a p os out after n e f l w = rw (e, f, l) w
+written words a q os out after n e f l w = rw (e, f, l) w

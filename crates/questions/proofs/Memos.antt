@@ -1,14 +1,14 @@
 -- The memo of a placement: what it holds is what references give, and a reference that gives a layout has its place there.
 use mathlib.Core.Path.{_≡_, refl, sym, ap, _∙_}
 use mathlib.Core.Bool.{Bool, true, false}
-use mathlib.Core.List.{List, [], _∷_, _++_, append-assoc}
-use Prim.Native.Nat.{ℕ, zero, suc, _+_, _*_, _-_, _<_}
+use mathlib.Core.List.{List, [], _∷_, _++_, map-append, append-assoc}
+use Prim.Native.Nat.{ℕ, zero, suc, _+_, _-_, _<_}
 use native.Mathlib.Numerals.{add-one}
 use native.Mathlib.Omega.{arith}
 use lib.Arith.{digits-div, digits-mod}
 use lib.Dec.{eqb}
-use lib.ListN.{length, getD, take, drop, set, replicate}
-use lib.Seq.{getD-set-same, getD-set-other, drop-cons, set-at}
+use lib.ListN.{length, getD, take, drop, set, replicate, length-map}
+use lib.Seq.{getD-set-same, getD-set-other, drop-cons, take-suc, length-take-le, set-at}
 use borrow.Author.Tests.{eqb-true, eqb-false}
 use Rattle.canon.specs.Answer.{Leaf, is, no, Answer, ok, refused, atPosition, then, andThen, unless, badRow}
 use Rattle.canon.specs.Layout.{Memory, Layout}
@@ -19,7 +19,10 @@ use Rattle.canon.proofs.Questions.{read-aligned, read-below}
 use Rattle.canon.proofs.Rounding.{Alignment, alignment-pos}
 use Rattle.canon.proofs.Tightest.{Aligned}
 use Rattle.canon.specs.Placement.{fourGiB}
+use Rattle.questions.specs.Means.{pairOf, halfOf, halves}
 use Rattle.questions.specs.Steps.{memberLayout, memoLayout, Remembers, Recalled, known}
+use Rattle.questions.specs.declared.pair.Half.{Half}
+use Rattle.questions.specs.declared.pair.Half.the-variants.{Low, High}
 use Rattle.questions.proofs.References.{part-is}
 
 -- by whether two numbers are the same
@@ -30,10 +33,13 @@ by-same {A} v w y n = go (eqb v w) refl
     go true e = y (eqb-true v w e)
     go false e = n (eqb-false v w e)
 
--- A layout is found again in its word
+-- Both words of a pair are found again in it, and so is a layout in its word
 
-pub memo-back : (f : Layout) → f .size < fourGiB → memoLayout (f .align * fourGiB + f .size) ≡ f
-memo-back f h = rw (digits-mod (f .align) h, digits-div (f .align) h)
+pub pair-back : (low high : ℕ) → low < fourGiB → (halfOf Low (pairOf low high) ≡ low) × (halfOf High (pairOf low high) ≡ high)
+pair-back low high h = (digits-mod high h, digits-div high h)
+
+memo-back : (f : Layout) → f .size < fourGiB → memoLayout (pairOf (f .size) (f .align)) ≡ f
+memo-back f h = let p = pair-back (f .size) (f .align) h in rw (p .0, p .1)
 
 -- What a reference gives in this memory, after the test of the table
 pub size-align-is : (m : Memory) (t : List ℕ) (n w : ℕ) → sizeAlignAnswer m t n w ≡ unless (noTable t n) badRow (atPosition 0 (memberLayout m t n w))
@@ -83,7 +89,7 @@ module _ (look : ℕ → Leaf Layout) (w : ℕ) (memo : List ℕ) (remembers : R
   -- it is put there
   module _ (f : Layout) (gives : look w ≡ is f) (fits : f .size < fourGiB) (pos : 0 < f .align) (below : w < length memo) where
     abbrev x : ℕ
-    x = f .align * fourGiB + f .size
+    x = pairOf (f .size) (f .align)
 
     positive : 0 < x
     positive = omega arith
@@ -160,3 +166,12 @@ pub write-turn :
     set (os ++ drop k out) k x ≡ (os ++ x ∷ []) ++ drop (k + 1) out
 write-turn os out x k e h =
     rw (add-one k, drop-cons out k 0 h, append-assoc os (x ∷ []) (drop (suc k) out)) (set-at os (getD out k 0) (drop (suc k) out) x k e)
+
+-- a turn of copying a half of each pair
+pub copy-turn :
+    (half : Half) (s d : List ℕ) (i : ℕ) → i < length s → i < length d →
+    set (halves half (take i s) ++ drop i d) i (halfOf half (getD s i 0)) ≡ halves half (take (i + 1) s) ++ drop (i + 1) d
+copy-turn half s d i h k =
+    let front = halves half (take i s) in
+    write-turn front d (halfOf half (getD s i 0)) i (length-map (take i s) (halfOf half) ∙ length-take-le i s (omega arith)) k
+    ∙ ap (λ (l : List ℕ). l ++ drop (i + 1) d) (sym (ap (halves half) (ap (λ (n : ℕ). take n s) (add-one i) ∙ take-suc s i 0 h) ∙ map-append (halfOf half) (take i s) (getD s i 0 ∷ [])))

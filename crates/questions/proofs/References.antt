@@ -12,6 +12,7 @@ use Rattle.canon.specs.Row.{Info}
 use Rattle.canon.specs.Types.{plain}
 use Rattle.canon.specs.Question.{plainInfo, read, infos}
 use Rattle.canon.proofs.Tests.{impossible}
+use Rattle.canon.proofs.Questions.{then-then, then-ext}
 use Rattle.questions.specs.Steps.{part}
 
 -- One reference
@@ -34,16 +35,6 @@ part-no f (is i) x e = impossible (cc)
 part-no f (no y) x e = let p : x ≡ y = cc in rw p
 
 -- A list of them
-
-then-then : {A B C : Type 0} (a : Answer A) (k : A → Answer B) (l : B → Answer C) → then (then a k) l ≡ then a (λ x. then (k x) l)
-unfolding then
-then-then (ok a) k l = refl
-then-then (refused x p) k l = refl
-
-then-ext : {A B : Type 0} (a : Answer A) (k l : A → Answer B) → ((x : A) → k x ≡ l x) → then a k ≡ then a l
-unfolding then
-then-ext (ok a) k l e = e a
-then-ext (refused x p) k l e = refl
 
 then-same : {A : Type 0} (a : Answer A) → then a (λ x. ok x) ≡ a
 unfolding then

@@ -1,5 +1,5 @@
 -- No second outcome meets a promise, answer and memory: what an answer means tells the answer.
-use mathlib.Core.Path.{_≡_, refl, sym, ap, ap₂, _∙_}
+use mathlib.Core.Path.{_≡_, refl, sym, ap, _∙_}
 use mathlib.Core.Bool.{Bool}
 use mathlib.Core.List.{List}
 use Prim.Native.Nat.{ℕ}
@@ -8,21 +8,22 @@ use contract.Lifetimes.{Lfts}
 use Rattle.canon.specs.Answer.{Answer, ok, refused}
 use Rattle.canon.specs.Layout as canon
 use Rattle.canon.specs.Row as row
+use Rattle.canon.proofs.Tests.{impossible}
 use Rattle.types.specs.Means.{numberOf, layoutMeans}
 use Rattle.types.specs.declared.refusal.Refusal.{Refusal}
-use Rattle.types.specs.declared.extent.Layout.{Layout}
 use Rattle.table.specs.declared.info.MemberPosition.{MemberPosition}
 use Rattle.types.specs.declared.memory.Memory.{Memory}
 use Rattle.types.specs.declared.info.CanonicalAbiInfo.{CanonicalAbiInfo}
 use Rattle.types.proofs.Told.{told, refusalOf, refusal-back}
 use Rattle.types.proofs.Unique.{infoFrom, info-back}
-use Rattle.questions.specs.Means.{typeInfoMeans, typeMeans, layoutAnswerMeans, placementMeans, wholeReads, gatheredMeans, twoMeans}
+use Rattle.questions.specs.Means.{typeInfoMeans, typeMeans, layoutAnswerMeans, placementMeans, wholeReads, afterMeans, gatheredMeans, twoMeans}
 use Rattle.questions.specs.Gathers.{Together, Two}
 use Rattle.questions.specs.declared.answer.TypeInfo.{TypeInfo}
 use Rattle.questions.specs.declared.answer.TypeAnswer.{TypeAnswer}
 use Rattle.questions.specs.declared.answer.TypeAnswer.the-variants as type
 use Rattle.questions.specs.declared.answer.LayoutAnswer.{LayoutAnswer}
 use Rattle.questions.specs.declared.answer.LayoutAnswer.the-variants as layout
+use Rattle.questions.specs.declared.answer.Whole.{Whole}
 use Rattle.questions.specs.declared.answer.PlacementAnswer.{PlacementAnswer}
 use Rattle.questions.specs.declared.answer.PlacementAnswer.the-variants as placement-answer
 use Rattle.questions.specs.declared.list.Gathering.{Gathering}
@@ -63,29 +64,30 @@ unfolding layoutAnswerOf
 layout-back (layout.Layout f) = refl
 layout-back (layout.Refused x p) = ap (λ (y : Refusal). layout.Refused y p) (refusal-back x)
 
--- what a placement means and reports tells it
-placementOf : Answer canon.Layout → ℕ → PlacementAnswer
-placementOf (ok f) reads = placement-answer.Whole (record { layout = record { size = f .size; align = f .align }; reads = reads })
-placementOf (refused x p) reads = placement-answer.Refused (refusalOf x) (record { 0 = p })
+-- what a placement means, reports and leaves after the last member tells it
+placementOf : Answer canon.Layout → ℕ → Answer ℕ → PlacementAnswer
+placementOf (ok f) reads (ok after) = placement-answer.Whole (record { reads = reads; layout = record { size = f .size; align = f .align }; after = after })
+placementOf (ok f) reads (refused x p) = placement-answer.Refused (refusalOf x) (record { 0 = p })
+placementOf (refused x p) reads after = placement-answer.Refused (refusalOf x) (record { 0 = p })
 
-placement-back : (r : PlacementAnswer) → placementOf (placementMeans r) (wholeReads r) ≡ r
+placement-back : (r : PlacementAnswer) → placementOf (placementMeans r) (wholeReads r) (afterMeans r) ≡ r
 unfolding placementOf
 placement-back (placement-answer.Whole w) = refl
 placement-back (placement-answer.Refused x p) = ap (λ (y : Refusal). placement-answer.Refused y p) (refusal-back x)
-
-pub whole-told : (r : PlacementAnswer) (f : Layout) → placementMeans r ≡ ok (layoutMeans f) → r ≡ placement-answer.Whole (record { layout = f; reads = wholeReads r })
-unfolding placementOf
-whole-told r f e = sym (placement-back r) ∙ ap (λ (a : Answer canon.Layout). placementOf a (wholeReads r)) e
 
 pub refusal-told : (r : PlacementAnswer) (x : Refusal) (p : MemberPosition) → placementMeans r ≡ refused (numberOf x) (p .0) → r ≡ placement-answer.Refused x p
 unfolding placementOf
 refusal-told r x p e =
     sym (placement-back r)
-    ∙ ap (λ (a : Answer canon.Layout). placementOf a (wholeReads r)) e
+    ∙ ap (λ (a : Answer canon.Layout). placementOf a (wholeReads r) (afterMeans r)) e
     ∙ ap (λ (y : Refusal). placement-answer.Refused y p) (refusal-back x)
 
-placement-told : (r q : PlacementAnswer) → placementMeans r ≡ placementMeans q → wholeReads r ≡ wholeReads q → r ≡ q
-placement-told r q e f = sym (placement-back r) ∙ ap₂ placementOf e f ∙ placement-back q
+pub whole-told : (r : PlacementAnswer) (f : canon.Layout) → placementMeans r ≡ ok f → (w : Whole) × (r ≡ placement-answer.Whole w) × (layoutMeans (w .layout) ≡ f)
+whole-told (placement-answer.Whole w) f e = (w, refl, cc)
+whole-told (placement-answer.Refused x p) f e = impossible (cc)
+
+placement-told : (r q : PlacementAnswer) → placementMeans r ≡ placementMeans q → wholeReads r ≡ wholeReads q → afterMeans r ≡ afterMeans q → r ≡ q
+placement-told r q e f g = sym (placement-back r) ∙ rw (e, f, g) (placement-back q)
 
 gatheringOf : Together → Gathering
 gatheringOf g = record { flat = record { count = g .flat .number; types = g .flat .types }; borrow = g .borrow }
@@ -138,8 +140,11 @@ pub gather-two-one :
 gather-two-one κs t n a vs b ws r q g h = told twoMeans twoOf two-back r q (g ∙ sym h)
 
 pub placement-one :
-    (κs : Lfts 3) (m : Memory) (t : RefT (List ℕ)) (n : ℕ) (ws o : RefT (List ℕ)) (r q : PlacementAnswer) (l k : List ℕ) →
-    placement.Post κs (m, (t, (n, (ws, (o, tt))))) r (m, (t, (n, (ws, (at-last o l, tt))))) →
-    placement.Post κs (m, (t, (n, (ws, (o, tt))))) q (m, (t, (n, (ws, (at-last o k, tt))))) → (r ≡ q) × (l ≡ k)
-placement-one κs m t n ws o r q l k g h =
-    (placement-told r q (g .0 ∙ sym (h .0)) (g .1 .1 ∙ sym (h .1 .1)), g .1 .0 ∙ sym (h .1 .0))
+    (κs : Lfts 4) (m : Memory) (t : RefT (List ℕ)) (n : ℕ) (ws o g : RefT (List ℕ)) (r q : PlacementAnswer) (l k : List ℕ) (l′ k′ : List ℕ) →
+    placement.Post κs (m, (t, (n, (ws, (o, (g, tt)))))) r (m, (t, (n, (ws, (at-last o l, (at-last g l′, tt)))))) →
+    placement.Post κs (m, (t, (n, (ws, (o, (g, tt)))))) q (m, (t, (n, (ws, (at-last o k, (at-last g k′, tt)))))) → (r ≡ q) × (l ≡ k) × (l′ ≡ k′)
+placement-one κs m t n ws o g r q l k l′ k′ h i = (
+  placement-told r q (h .0 ∙ sym (i .0)) (h .1 .1 .0 ∙ sym (i .1 .1 .0)) (h .1 .1 .1 .1 ∙ sym (i .1 .1 .1 .1)),
+  h .1 .0 ∙ sym (i .1 .0),
+  h .1 .1 .1 .0 ∙ sym (i .1 .1 .1 .0),
+)

@@ -1,9 +1,10 @@
 -- What this crate's answers stand for: 01's number of a refusal with the position, or 01's values.
 use mathlib.Core.Path.{_≡_}
-use mathlib.Core.List.{List}
-use Prim.Native.Nat.{ℕ}
+use mathlib.Core.List.{List, map}
+use Prim.Native.Nat.{ℕ, _+_, _*_, _/_, _%_}
 use Rattle.canon.specs.Answer.{Leaf, is, no, Answer, ok, refused}
 use Rattle.canon.specs.Layout.{Layout}
+use Rattle.canon.specs.Placement.{fourGiB}
 use Rattle.canon.specs.Row.{Info, rowInfo}
 use Rattle.types.specs.Means.{numberOf, layoutMeans, abiMeans}
 use Rattle.flat_types.specs.Lists.{words}
@@ -16,6 +17,8 @@ use Rattle.questions.specs.declared.ask.Reading.{Reading}
 use Rattle.questions.specs.declared.ask.Reading.the-variants as reading
 use Rattle.questions.specs.declared.member.Member.{Member}
 use Rattle.questions.specs.declared.member.Member.the-variants as member
+use Rattle.questions.specs.declared.pair.Half.{Half}
+use Rattle.questions.specs.declared.pair.Half.the-variants.{Low, High}
 use Rattle.questions.specs.declared.answer.TypeInfo.{TypeInfo}
 use Rattle.questions.specs.declared.answer.TypeAnswer.{TypeAnswer}
 use Rattle.questions.specs.declared.answer.TypeAnswer.the-variants as type
@@ -45,6 +48,11 @@ layoutAnswerMeans (layout.Refused r p) = refused (numberOf r) (p .0)
 abbrev pub placementMeans : PlacementAnswer → Answer Layout
 placementMeans (placement.Whole w) = ok (layoutMeans (w .layout))
 placementMeans (placement.Refused r p) = refused (numberOf r) (p .0)
+
+-- 02, order 10: "and the gap after the last"
+abbrev pub afterMeans : PlacementAnswer → Answer ℕ
+afterMeans (placement.Whole w) = ok (w .after)
+afterMeans (placement.Refused r p) = refused (numberOf r) (p .0)
 
 -- 02, order 6: "Placement reports likewise"; "A refused call reports 0"
 abbrev pub wholeReads : PlacementAnswer → ℕ
@@ -84,3 +92,15 @@ MemberReads (member.Refused r) n = Unit {0}
 abbrev pub oneMeans : Next → Leaf Together
 oneMeans (next.One g) = is (gatheringMeans g)
 oneMeans (next.Refused r) = no (numberOf r)
+
+-- two words in one number, and a half of it
+
+abbrev pub pairOf : ℕ → ℕ → ℕ
+pairOf low high = high * fourGiB + low
+
+abbrev pub halfOf : Half → ℕ → ℕ
+halfOf Low x = x % fourGiB
+halfOf High x = x / fourGiB
+
+abbrev pub halves : Half → List ℕ → List ℕ
+halves h ws = map (halfOf h) ws

@@ -23,11 +23,12 @@ pub enum LayoutAnswer {
     Refused(Refusal, MemberPosition),
 }
 
-// What a placement answers of the whole: how many rows were read back for its members, and its layout. In the other order short placements take
-// longer (docs/BENCHMARKS.md).
+// What a placement answers of the whole: how many rows were read back for its members, its layout, and the gap after the last of them. With the
+// reads behind the layout short placements take longer (docs/BENCHMARKS.md).
 pub struct Whole {
     pub reads: u32,
     pub layout: Layout,
+    pub after: u32,
 }
 
 pub enum PlacementAnswer {

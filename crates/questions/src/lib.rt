@@ -3,6 +3,7 @@ mod answer;
 mod ask;
 mod list;
 mod member;
+mod pair;
 mod placed;
 mod placing;
 mod read;

@@ -2,27 +2,30 @@
 ghost use mathlib.Core.Path.{_≡_};
 ghost use mathlib.Core.Bool.{false, cond};
 ghost use mathlib.Core.List.{[], _∷_};
-ghost use Prim.Native.Nat.{_+_, _*_, _≤_, _<_};
+ghost use Prim.Native.Nat.{_+_, _≤_};
 ghost use lib.Dec.{leb};
 ghost use lib.ListN.{length, getElem?};
+ghost use Rattle.canon.specs.Answer.{atPosition};
 ghost use Rattle.canon.specs.Cost.{rowsAmong};
 ghost use Rattle.canon.specs.Question.{noTable, plainInfo, sizeAlignAnswer};
 ghost use Rattle.canon.specs.Row.{infoLayout};
 ghost use Rattle.canon.specs.Types.{plain};
 ghost use Rattle.types.specs.Means.{memoryOf, layoutMeans};
-ghost use Rattle.canon.specs.Placement.{fourGiB};
-ghost use Rattle.questions.specs.Means.{memberMeans, layoutAnswerMeans, MemberReads};
+ghost use Rattle.questions.specs.Means.{memberMeans, layoutAnswerMeans, MemberReads, pairOf};
 ghost use Rattle.questions.specs.Steps.{part, memberLayout, memoLayout, Remembers, Recalled};
 use crate::answer::LayoutAnswer;
+use crate::pair::Half;
+use crate::pair::pair;
 use crate::read::Named;
 use crate::read::no_table;
 use crate::read::row_named;
+use table::DefinitionIndex;
 use table::FIRST_DEFINITION;
 use table::Found;
 use table::MemberPosition;
+use table::is_good_row;
 use table::plain_info;
 use table::row_layout;
-use types::FOUR_GIB;
 use types::Layout;
 use types::Memory;
 use types::Refusal;
@@ -67,6 +70,24 @@ pub(crate) fn read_member(
     }
 }
 
+// Tests the row as row_named does, but by itself: with one caller alone the compiler would take is_good_row into row_named, and that out of the loops of
+// the other questions (docs/BENCHMARKS.md).
+fn size_align_of_row(memory: Memory, table: &[u32], n: u32, reference: u32) -> LayoutAnswer
+    requires { ⌜ (noTable (now table) n ≡ false) × (64 ≤ reference) ⌝ }
+    ensures { λ r. ⌜ layoutAnswerMeans r ≡ atPosition 0 (memberLayout (memoryOf memory) (now (table .entry)) n reference) ⌝ }
+{
+    let index = DefinitionIndex(reference - FIRST_DEFINITION);
+    if index.0 < n {
+        if is_good_row(table, index) {
+            LayoutAnswer::Layout(row_layout(table, index, memory))
+        } else {
+            LayoutAnswer::Refused(Refusal::BadRow, MemberPosition(0))
+        }
+    } else {
+        LayoutAnswer::Refused(Refusal::BadRef, MemberPosition(0))
+    }
+}
+
 // Answers size and alignment in one memory. Refuses BadRow for the table, then BadRef for the reference, then BadRow for its row.
 // Reads the row itself: a second caller would take read_member out of the placement's loop.
 pub fn size_align(memory: Memory, table: &[u32], n: u32, reference: u32) -> LayoutAnswer
@@ -81,27 +102,22 @@ pub fn size_align(memory: Memory, table: &[u32], n: u32, reference: u32) -> Layo
             Member::Refused(why) => LayoutAnswer::Refused(why, MemberPosition(0)),
         };
     }
-    match row_named(table, n, reference) {
-        Named::Row(index) => LayoutAnswer::Layout(row_layout(table, index, memory)),
-        Named::Refused(why) => LayoutAnswer::Refused(why, MemberPosition(0)),
-    }
+    size_align_of_row(memory, table, n, reference)
 }
 
 // Packs a layout into a word of the memo. No alignment is 0, so that 0 stands for none.
 fn memo_word(layout: Layout) -> u64
-    ensures { λ r. ⌜ r ≡ layout .align * fourGiB + layout .size ⌝ }
+    ensures { λ r. ⌜ r ≡ pairOf (layout .size) (layout .align) ⌝ }
 {
-    layout.align as u64 * FOUR_GIB + layout.size as u64
+    pair(layout.size, layout.align)
 }
 
 pub(crate) fn memo_layout(word: u64) -> Layout
     ensures { λ r. ⌜ layoutMeans r ≡ memoLayout word ⌝ }
 {
-    let size = word % FOUR_GIB;
-    let align = word / FOUR_GIB;
     Layout {
-        size: size as u32,
-        align: align as u32,
+        size: Half::Low.of(word),
+        align: Half::High.of(word),
     }
 }
 

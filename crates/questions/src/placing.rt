@@ -1,5 +1,5 @@
-// Answers a placement in one memory. Up to 1,024 offsets are staged and copied when all is accepted. More are placed twice: the first pass judges and
-// remembers each layout, the second writes.
+// Answers a placement in one memory. Up to 1,024 offsets and gaps are staged in pairs, and copied when all is accepted. More are placed twice: the first
+// pass judges and remembers each layout, the second writes.
 ghost use mathlib.Core.Path.{_≡_};
 ghost use mathlib.Core.Bool.{false};
 ghost use mathlib.Core.List.{_++_};
@@ -7,16 +7,20 @@ ghost use Prim.Native.Nat.{_≤_};
 ghost use lib.ListN.{length, take, drop};
 ghost use Rattle.canon.specs.Answer.{ok};
 ghost use Rattle.canon.specs.Layout.{starts};
-ghost use Rattle.canon.specs.Question.{noTable, Placing, placementAnswer, offsetsAfter};
+ghost use Rattle.canon.specs.Question.{noTable, placementAnswer, offsetsAfter};
 ghost use Rattle.canon.specs.Cost.{placementReads};
+ghost use Rattle.canon.specs.Gaps as canonGaps;
+ghost use Rattle.canon.specs.Gaps.{Padded, roomOf, gapsAfter, afterAnswer};
 ghost use Rattle.types.specs.Means.{memoryOf};
-ghost use Rattle.questions.specs.Means.{placementMeans, wholeReads};
-ghost use Rattle.questions.specs.Steps.{placedRefs, Answers, memberLayout, Remembers, known, Ready, Places};
+ghost use Rattle.questions.specs.Means.{placementMeans, wholeReads, afterMeans, halves};
+ghost use Rattle.questions.specs.Steps.{paddedRefs, Answers, Pairs, memberLayout, Remembers, known, AllKnown, Ready, Places};
 use crate::answer::PlacementAnswer;
 use crate::member::Member;
 use crate::member::memo_layout;
 use crate::member::read_member;
 use crate::member::recall;
+use crate::pair::Half;
+use crate::pair::pair;
 use crate::placed::Placed;
 use crate::read::no_table;
 use crate::read::too_many;
@@ -26,17 +30,17 @@ use table::MemberPosition;
 use types::Memory;
 use types::Refusal;
 
-// Answers, and puts each reference's offset into the stage.
+// Answers, and puts each reference's offset into the stage, with the gap before it.
 fn fill(
     memory: Memory,
     table: &[u32],
     n: u32,
     references: &[u32],
-    stage: &mut [u32],
+    stage: &mut [u64],
 ) -> PlacementAnswer
     requires { ⌜ (noTable (now table) n ≡ false) × (length (now references) ≤ 16384) × (length (now references) ≤ length (now stage)) ⌝ }
     ensures { λ r. ⌜ Answers (memoryOf memory) (now (table .entry)) n (now (references .entry)) r ⌝ }
-    ensures { λ _. ⌜ ((p : Placing) → placedRefs (memoryOf memory) (now (table .entry)) n (now (references .entry)) ≡ ok p → p .offsets ≡ take (length (now (references .entry))) (now (stage .exit))) ⌝ }
+    ensures { λ _. ⌜ ((q : Padded) → paddedRefs (memoryOf memory) (now (table .entry)) n (now (references .entry)) ≡ ok q → Pairs (take (length (now (references .entry))) (now (stage .exit))) q) ⌝ }
 {
     let mut placed = Placed::NONE;
     let mut reads: u32 = 0;
@@ -45,7 +49,7 @@ fn fill(
         match read_member(memory, table, n, references[k], reads) {
             Member::Layout(layout, so_far) => {
                 placed = placed.next(layout, MemberPosition(k as u32));
-                stage[k] = placed.offset;
+                stage[k] = pair(placed.offset, placed.gap);
                 reads = so_far;
             }
             Member::Refused(why) => return PlacementAnswer::Refused(why, MemberPosition(k as u32)),
@@ -55,13 +59,14 @@ fn fill(
     placed.finish(reads)
 }
 
-fn copy(from: &[u32], count: usize, out: &mut [u32])
-    requires { ⌜ (count ≤ length (now from)) × (count ≤ length (now out)) ⌝ }
-    ensures { λ _. ⌜ now (out .exit) ≡ take count (now (from .entry)) ++ drop count (now (out .entry)) ⌝ }
+// Puts a half of each staged pair in front of a lent buffer.
+fn copy(stage: &[u64], half: Half, count: usize, out: &mut [u32])
+    requires { ⌜ (count ≤ length (now stage)) × (count ≤ length (now out)) ⌝ }
+    ensures { λ _. ⌜ now (out .exit) ≡ halves half (take count (now (stage .entry))) ++ drop count (now (out .entry)) ⌝ }
 {
     let mut i: usize = 0;
     while i < count {
-        out[i] = from[i];
+        out[i] = half.of(stage[i]);
         i += 1;
     }
 }
@@ -71,15 +76,17 @@ fn place_staged(
     table: &[u32],
     n: u32,
     references: &[u32],
-    stage: &mut [u32],
+    stage: &mut [u64],
     out: &mut [u32],
+    gaps: &mut [u32],
 ) -> PlacementAnswer
-    requires { ⌜ (noTable (now table) n ≡ false) × (length (now references) ≤ 16384) × (length (now references) ≤ length (now stage)) × (length (now references) ≤ length (now out)) ⌝ }
-    ensures { λ r. ⌜ Places (memoryOf memory) (now (table .entry)) n (now (references .entry)) (now (out .entry)) r (now (out .exit)) ⌝ }
+    requires { ⌜ (noTable (now table) n ≡ false) × (length (now references) ≤ 16384) × (length (now references) ≤ length (now stage)) × (length (now references) ≤ length (now out)) × (length (now references) ≤ length (now gaps)) ⌝ }
+    ensures { λ r. ⌜ Places (memoryOf memory) (now (table .entry)) n (now (references .entry)) (now (out .entry)) (now (gaps .entry)) r (now (out .exit)) (now (gaps .exit)) ⌝ }
 {
     match fill(memory, table, n, references, stage) {
         PlacementAnswer::Whole(whole) => {
-            copy(stage, references.len(), out);
+            copy(stage, Half::Low, references.len(), out);
+            copy(stage, Half::High, references.len(), gaps);
             PlacementAnswer::Whole(whole)
         }
         PlacementAnswer::Refused(why, position) => PlacementAnswer::Refused(why, position),
@@ -96,7 +103,7 @@ fn judge(
 ) -> PlacementAnswer
     requires { ⌜ (noTable (now table) n ≡ false) × (length (now references) ≤ 16384) × (length (now memo) ≡ 1088) × Remembers (memberLayout (memoryOf memory) (now table) n) (now memo) ⌝ }
     ensures { λ r. ⌜ Answers (memoryOf memory) (now (table .entry)) n (now (references .entry)) r ⌝ }
-    ensures { λ _. ⌜ ((p : Placing) → placedRefs (memoryOf memory) (now (table .entry)) n (now (references .entry)) ≡ ok p → Ready (now (memo .exit)) (now (references .entry)) (p .offsets)) ⌝ }
+    ensures { λ _. ⌜ ((q : Padded) → paddedRefs (memoryOf memory) (now (table .entry)) n (now (references .entry)) ≡ ok q → Ready (now (memo .exit)) (now (references .entry)) q) ⌝ }
 {
     let mut placed = Placed::NONE;
     let mut reads: u32 = 0;
@@ -114,10 +121,11 @@ fn judge(
     placed.finish(reads)
 }
 
-// Writes the offsets of references whose layouts the memo has.
-fn write(references: &[u32], memo: &[u64], out: &mut [u32])
-    requires { ⌜ (length (now references) ≤ 16384) × (length (now memo) ≡ 1088) × (length (now references) ≤ length (now out)) × Ready (now memo) (now references) (starts 0 (known (now memo) (now references))) ⌝ }
+// Writes the offsets and gaps of references whose layouts the memo has.
+fn write(references: &[u32], memo: &[u64], out: &mut [u32], gaps: &mut [u32])
+    requires { ⌜ (length (now references) ≤ 16384) × (length (now memo) ≡ 1088) × (length (now references) ≤ length (now out)) × (length (now references) ≤ length (now gaps)) × AllKnown (now memo) (now references) ⌝ }
     ensures { λ _. ⌜ now (out .exit) ≡ starts 0 (known (now (memo .entry)) (now (references .entry))) ++ drop (length (now (references .entry))) (now (out .entry)) ⌝ }
+    ensures { λ _. ⌜ now (gaps .exit) ≡ canonGaps.gaps 0 (known (now (memo .entry)) (now (references .entry))) ++ drop (length (now (references .entry))) (now (gaps .entry)) ⌝ }
 {
     let mut placed = Placed::NONE;
     let mut k: usize = 0;
@@ -125,15 +133,18 @@ fn write(references: &[u32], memo: &[u64], out: &mut [u32])
         let word = memo[references[k] as usize];
         placed = placed.next(memo_layout(word), MemberPosition(k as u32));
         out[k] = placed.offset;
+        gaps[k] = placed.gap;
         k += 1;
     }
 }
 
-// A list of at most so many references has a small array: an array is cleared first, and a large one takes longer than a short list.
+// A list of at most so many references has a smaller array: an array is cleared first, and the largest, 8 KiB of pairs, takes longer than a short list.
 const SHORT: usize = 64;
 
+const MIDDLE: usize = 256;
+
 // More references than this are placed twice, over a memo.
-const STAGED: usize = 1024;
+const MANY: usize = 1024;
 
 // A memo has a word for each reference up to the last row that a table can have.
 const MEMO: usize = FIRST_DEFINITION as usize + MOST_ROWS;
@@ -144,12 +155,13 @@ fn place_short(
     n: u32,
     references: &[u32],
     out: &mut [u32],
+    gaps: &mut [u32],
 ) -> PlacementAnswer
-    requires { ⌜ (noTable (now table) n ≡ false) × (length (now references) ≤ 64) × (length (now references) ≤ length (now out)) ⌝ }
-    ensures { λ r. ⌜ Places (memoryOf memory) (now (table .entry)) n (now (references .entry)) (now (out .entry)) r (now (out .exit)) ⌝ }
+    requires { ⌜ (noTable (now table) n ≡ false) × (length (now references) ≤ 64) × (length (now references) ≤ length (now out)) × (length (now references) ≤ length (now gaps)) ⌝ }
+    ensures { λ r. ⌜ Places (memoryOf memory) (now (table .entry)) n (now (references .entry)) (now (out .entry)) (now (gaps .entry)) r (now (out .exit)) (now (gaps .exit)) ⌝ }
 {
-    let mut stage = [0u32; SHORT];
-    place_staged(memory, table, n, references, &mut stage, out)
+    let mut stage = [0u64; SHORT];
+    place_staged(memory, table, n, references, &mut stage, out, gaps)
 }
 
 fn place_middle(
@@ -158,12 +170,28 @@ fn place_middle(
     n: u32,
     references: &[u32],
     out: &mut [u32],
+    gaps: &mut [u32],
 ) -> PlacementAnswer
-    requires { ⌜ (noTable (now table) n ≡ false) × (length (now references) ≤ 1024) × (length (now references) ≤ length (now out)) ⌝ }
-    ensures { λ r. ⌜ Places (memoryOf memory) (now (table .entry)) n (now (references .entry)) (now (out .entry)) r (now (out .exit)) ⌝ }
+    requires { ⌜ (noTable (now table) n ≡ false) × (length (now references) ≤ 256) × (length (now references) ≤ length (now out)) × (length (now references) ≤ length (now gaps)) ⌝ }
+    ensures { λ r. ⌜ Places (memoryOf memory) (now (table .entry)) n (now (references .entry)) (now (out .entry)) (now (gaps .entry)) r (now (out .exit)) (now (gaps .exit)) ⌝ }
 {
-    let mut stage = [0u32; STAGED];
-    place_staged(memory, table, n, references, &mut stage, out)
+    let mut stage = [0u64; MIDDLE];
+    place_staged(memory, table, n, references, &mut stage, out, gaps)
+}
+
+fn place_many(
+    memory: Memory,
+    table: &[u32],
+    n: u32,
+    references: &[u32],
+    out: &mut [u32],
+    gaps: &mut [u32],
+) -> PlacementAnswer
+    requires { ⌜ (noTable (now table) n ≡ false) × (length (now references) ≤ 1024) × (length (now references) ≤ length (now out)) × (length (now references) ≤ length (now gaps)) ⌝ }
+    ensures { λ r. ⌜ Places (memoryOf memory) (now (table .entry)) n (now (references .entry)) (now (out .entry)) (now (gaps .entry)) r (now (out .exit)) (now (gaps .exit)) ⌝ }
+{
+    let mut stage = [0u64; MANY];
+    place_staged(memory, table, n, references, &mut stage, out, gaps)
 }
 
 fn place_long(
@@ -172,14 +200,15 @@ fn place_long(
     n: u32,
     references: &[u32],
     out: &mut [u32],
+    gaps: &mut [u32],
 ) -> PlacementAnswer
-    requires { ⌜ (noTable (now table) n ≡ false) × (length (now references) ≤ 16384) × (length (now references) ≤ length (now out)) ⌝ }
-    ensures { λ r. ⌜ Places (memoryOf memory) (now (table .entry)) n (now (references .entry)) (now (out .entry)) r (now (out .exit)) ⌝ }
+    requires { ⌜ (noTable (now table) n ≡ false) × (length (now references) ≤ 16384) × (length (now references) ≤ length (now out)) × (length (now references) ≤ length (now gaps)) ⌝ }
+    ensures { λ r. ⌜ Places (memoryOf memory) (now (table .entry)) n (now (references .entry)) (now (out .entry)) (now (gaps .entry)) r (now (out .exit)) (now (gaps .exit)) ⌝ }
 {
     let mut memo = [0u64; MEMO];
     match judge(memory, table, n, references, &mut memo) {
         PlacementAnswer::Whole(whole) => {
-            write(references, &memo, out);
+            write(references, &memo, out, gaps);
             PlacementAnswer::Whole(whole)
         }
         PlacementAnswer::Refused(why, position) => PlacementAnswer::Refused(why, position),
@@ -192,30 +221,37 @@ fn place_all(
     n: u32,
     references: &[u32],
     out: &mut [u32],
+    gaps: &mut [u32],
 ) -> PlacementAnswer
-    requires { ⌜ (noTable (now table) n ≡ false) × (length (now references) ≤ 16384) × (length (now references) ≤ length (now out)) ⌝ }
-    ensures { λ r. ⌜ Places (memoryOf memory) (now (table .entry)) n (now (references .entry)) (now (out .entry)) r (now (out .exit)) ⌝ }
+    requires { ⌜ (noTable (now table) n ≡ false) × (length (now references) ≤ 16384) × (length (now references) ≤ length (now out)) × (length (now references) ≤ length (now gaps)) ⌝ }
+    ensures { λ r. ⌜ Places (memoryOf memory) (now (table .entry)) n (now (references .entry)) (now (out .entry)) (now (gaps .entry)) r (now (out .exit)) (now (gaps .exit)) ⌝ }
 {
     if references.len() <= SHORT {
-        return place_short(memory, table, n, references, out);
+        return place_short(memory, table, n, references, out, gaps);
     }
-    if references.len() <= STAGED {
-        return place_middle(memory, table, n, references, out);
+    if references.len() <= MIDDLE {
+        return place_middle(memory, table, n, references, out, gaps);
     }
-    place_long(memory, table, n, references, out)
+    if references.len() <= MANY {
+        return place_many(memory, table, n, references, out, gaps);
+    }
+    place_long(memory, table, n, references, out, gaps)
 }
 
-// Refuses TooLong, then BadRow for the table, then NoRoom for the offsets, then the first bad reference, then TooLarge.
+// Refuses TooLong, then BadRow for the table, then NoRoom for the offsets or the gaps, then the first bad reference, then TooLarge.
 pub fn placement(
     memory: Memory,
     table: &[u32],
     n: u32,
     references: &[u32],
     out: &mut [u32],
+    gaps: &mut [u32],
 ) -> PlacementAnswer
-    ensures { λ r. ⌜ placementMeans r ≡ placementAnswer (memoryOf memory) (now (table .entry)) n (now (references .entry)) (length (now (out .entry))) ⌝ }
-    ensures { λ _. ⌜ now (out .exit) ≡ offsetsAfter (memoryOf memory) (now (table .entry)) n (now (references .entry)) (now (out .entry)) ⌝ }
-    ensures { λ r. ⌜ wholeReads r ≡ placementReads (memoryOf memory) (now (table .entry)) n (now (references .entry)) (length (now (out .entry))) ⌝ }
+    ensures { λ r. ⌜ placementMeans r ≡ placementAnswer (memoryOf memory) (now (table .entry)) n (now (references .entry)) (roomOf (now (out .entry)) (now (gaps .entry))) ⌝ }
+    ensures { λ _. ⌜ now (out .exit) ≡ offsetsAfter (memoryOf memory) (now (table .entry)) n (now (references .entry)) (roomOf (now (out .entry)) (now (gaps .entry))) (now (out .entry)) ⌝ }
+    ensures { λ r. ⌜ wholeReads r ≡ placementReads (memoryOf memory) (now (table .entry)) n (now (references .entry)) (roomOf (now (out .entry)) (now (gaps .entry))) ⌝ }
+    ensures { λ _. ⌜ now (gaps .exit) ≡ gapsAfter (memoryOf memory) (now (table .entry)) n (now (references .entry)) (roomOf (now (out .entry)) (now (gaps .entry))) (now (gaps .entry)) ⌝ }
+    ensures { λ r. ⌜ afterMeans r ≡ afterAnswer (memoryOf memory) (now (table .entry)) n (now (references .entry)) (roomOf (now (out .entry)) (now (gaps .entry))) ⌝ }
 {
     if too_many(references) {
         return PlacementAnswer::Refused(Refusal::TooLong, MemberPosition(0));
@@ -226,5 +262,8 @@ pub fn placement(
     if out.len() < references.len() {
         return PlacementAnswer::Refused(Refusal::NoRoom, MemberPosition(0));
     }
-    place_all(memory, table, n, references, out)
+    if gaps.len() < references.len() {
+        return PlacementAnswer::Refused(Refusal::NoRoom, MemberPosition(0));
+    }
+    place_all(memory, table, n, references, out, gaps)
 }

@@ -3,7 +3,7 @@ use mathlib.Core.Path.{_≡_, refl, sym, ap, _∙_}
 use mathlib.Core.Bool.{Bool, true, false, cond, not, _||_}
 use mathlib.Core.List.{List, [], _∷_}
 use mathlib.Core.Option.{some}
-use Prim.Native.Nat.{ℕ, _+_, _*_, _≤_, max, min}
+use Prim.Native.Nat.{ℕ, _+_, _-_, _*_, _≤_, max, min}
 use native.Mathlib.Omega.{arith}
 use lib.Dec.{eqb, ltb}
 use borrow.Author.Tests.{ltb-false}
@@ -48,6 +48,7 @@ use Rattle.types.specs.Leaves.{
 }
 use Rattle.types.specs.Extents.{extentAt, memberOf, isLarge, fittedOf}
 use Rattle.types.specs.States.{fittedAbi}
+use Rattle.types.specs.declared.extent.Step.{Step}
 use Rattle.types.proofs.ExtentLaws.{reach-is, reach-large, member-reach, fitted-reach}
 
 -- what is made of two exact ends, where the sizes alone decide
@@ -77,13 +78,17 @@ fixed-answer i n e =
     (λ m. last-decides largestNumber [] (within m (i .layouts) .size * n) tt))
 
 -- `next_field32` and `next_field64`: the field is a member of an extent that begins at the end
+
+abbrev stepField : Step → Field
+stepField s = record { offset = s .start; end = s .extent .end; skipped = s .skipped }
+
 pub field-step :
     (e : ℕ) (f : Layout) →
     Alignment (f .align) →
     e ≤ largestNumber →
     fieldAfter e f
     ≡ cond (isLarge (memberOf (record { end = e; align = 1 }) f .extent)) (no tooLarge)
-    (is (record { offset = memberOf (record { end = e; align = 1 }) f .start; end = memberOf (record { end = e; align = 1 }) f .extent .end }))
+    (is (stepField (memberOf (record { end = e; align = 1 }) f)))
 unfolding fieldAfter fitting starts ends
 field-step e f w h =
     rw (
@@ -97,14 +102,21 @@ field-step e f w h =
     go :
         (b : Bool) →
         ltb largestNumber (roundUp e (f .align) + f .size) ≡ b →
-        cond {A = Leaf Field} b (no tooLarge) (is (record { offset = roundUp e (f .align); end = roundUp e (f .align) + f .size }))
+        cond {A = Leaf Field} b (no tooLarge)
+        (is (record { offset = roundUp e (f .align); end = roundUp e (f .align) + f .size; skipped = roundUp e (f .align) - e }))
         ≡ cond b (no tooLarge)
-        (is (record { offset = min (roundUp e (f .align)) fourGiB; end = extentAt (roundUp e (f .align) + f .size) (max 1 (f .align)) .end }))
+        (is
+        (record {
+          offset = min (roundUp e (f .align)) fourGiB;
+          end = extentAt (roundUp e (f .align) + f .size) (max 1 (f .align)) .end;
+          skipped = min (roundUp e (f .align)) fourGiB - min e fourGiB;
+        }))
     go true p = refl
     go false p =
         let l : roundUp e (f .align) + f .size ≤ largestNumber = ltb-false _ _ p in
         let o : min (roundUp e (f .align)) fourGiB ≡ roundUp e (f .align) = omega arith in
-        rw (o, reach-is (roundUp e (f .align) + f .size) (max 1 (f .align)) (omega arith))
+        let end : min e fourGiB ≡ e = omega arith in
+        rw (o, end, reach-is (roundUp e (f .align) + f .size) (max 1 (f .align)) (omega arith))
 
 -- `enum_`
 

@@ -2,7 +2,7 @@
 use mathlib.Core.Path.{_≡_, refl, sym, ap, _∙_}
 use mathlib.Core.Bool.{Bool, true, false, cond, _||_}
 use mathlib.Core.List.{List, [], _∷_}
-use Prim.Native.Nat.{ℕ, _+_, _≤_, max, min}
+use Prim.Native.Nat.{ℕ, _+_, _-_, _≤_, max, min}
 use native.Mathlib.Nat.{add-zero}
 use native.Mathlib.Decide.{decLe}
 use native.Mathlib.Omega.{arith}
@@ -16,7 +16,7 @@ use Rattle.canon.proofs.Tests.{impossible}
 use Rattle.canon.proofs.Tightest.{Aligned, greatestAlign-alignment}
 use Rattle.types.specs.declared.extent.Extent.{Extent}
 use Rattle.types.specs.declared.extent.Step.{Step}
-use Rattle.types.specs.Extents.{rounded, extentAt, startExtent, memberOf, closeOf, isLarge, layoutOf, fittedOf}
+use Rattle.types.specs.Extents.{rounded, extentAt, startExtent, memberOf, closing, closeOf, isLarge, layoutOf, fittedOf}
 use Rattle.types.proofs.RoundLaws.{rounded-aligned, rounded-between, roundUp-stays}
 
 -- what holds in each memory holds in both
@@ -49,12 +49,15 @@ reach-align : (e a : ℕ) → extentAt e a .align ≡ a
 unfolding extentAt
 reach-align e a = refl
 
+-- the step from an exact end to an exact start, and on to another end
+abbrev pub stepReach : ℕ → ℕ → ℕ → ℕ → Step
+stepReach e s end a = record { start = min s fourGiB; skipped = min s fourGiB - min e fourGiB; extent = extentAt end a }
+
 -- one member more: canon's start and canon's end, at most 4 GiB
 pub member-reach :
     (e a : ℕ) (f : Layout) →
     Alignment (f .align) →
-    memberOf (extentAt e a) f
-    ≡ record { start = min (roundUp e (f .align)) fourGiB; extent = extentAt (roundUp e (f .align) + f .size) (max a (f .align)) }
+    memberOf (extentAt e a) f ≡ stepReach e (roundUp e (f .align)) (roundUp e (f .align) + f .size) (max a (f .align))
 unfolding memberOf extentAt
 member-reach e a f w =
     let stopped : min (min e fourGiB) fourGiB ≡ min e fourGiB = omega arith in
@@ -62,12 +65,15 @@ member-reach e a f w =
     let end : min (min (roundUp e (f .align)) fourGiB + f .size) fourGiB ≡ min (roundUp e (f .align) + f .size) fourGiB = omega arith in
     rw (stopped, start, end)
 
-pub close-reach : (e a : ℕ) → Alignment a → closeOf (extentAt e a) ≡ extentAt (roundUp e a) a
-unfolding closeOf
-close-reach e a w =
+pub closing-reach : (e a : ℕ) → Alignment a → closing (extentAt e a) ≡ stepReach e (roundUp e a) (roundUp e a) a
+unfolding closing
+closing-reach e a w =
     let one : max a a ≡ a = omega arith in
-    ap (λ (b : ℕ). memberOf (extentAt e a) (record { size = 0; align = b }) .extent) (reach-align e a)
+    ap (λ (b : ℕ). memberOf (extentAt e a) (record { size = 0; align = b })) (reach-align e a)
     ∙ rw (member-reach e a (record { size = 0; align = a }) w, add-zero (roundUp e a), one)
+
+pub close-reach : (e a : ℕ) → Alignment a → closeOf (extentAt e a) ≡ extentAt (roundUp e a) a
+close-reach e a w = ap (λ (s : Step). s .extent) (closing-reach e a w)
 
 -- where a member's end fits, so does its start: it is its size before the end
 pub member-fits : (x : Extent) (f : Layout) → memberOf x f .extent .end ≤ largestNumber → memberOf x f .start + f .size ≡ memberOf x f .extent .end
@@ -76,7 +82,7 @@ member-fits x f h = omega arith
 
 -- what fits once closed fitted before
 pub close-fits : (x : Extent) → closeOf x .end ≤ largestNumber → x .end ≤ largestNumber
-unfolding closeOf memberOf extentAt
+unfolding closing memberOf extentAt
 close-fits x h = omega (arith, rounded-between (min (x .end) fourGiB) (x .align) .0)
 
 -- members one after another

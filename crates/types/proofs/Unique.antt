@@ -41,7 +41,7 @@ use Rattle.types.specs.declared.record.RecordState.{RecordState}
 use Rattle.types.specs.declared.variant.VariantState.{VariantState}
 use Rattle.types.specs.declared.variant.VariantAnswer.{VariantAnswer}
 use Rattle.types.specs.declared.variant.VariantAnswer.the-variants as variant
-use Rattle.types.specs.Leaves.{Field, VariantAbi, recordAnswer}
+use Rattle.types.specs.Leaves.{Rounding, Field, VariantAbi, recordAnswer}
 use Rattle.types.specs.Means.{roundedMeans, countMeans, bytesOf, discriminantMeans, layoutMeans, layoutsMeans, extentsOf, fittedMeans, abiMeans, infoAnswerMeans, nextMeans, variantMeans}
 use Rattle.types.specs.States.{FieldState, recordMeans, CaseState, casesMeans}
 use Rattle.types.proofs.Told.{told, refusalOf, refusal-back}
@@ -55,6 +55,7 @@ use Rattle.types.proofs.discriminant.DiscriminantSize.byte_size.Reads a
 use Rattle.types.proofs.flags.flag_groups.Reads as flag-groups-reads
 use Rattle.types.proofs.extent.Extent.is_large.Reads as is-large-reads
 use Rattle.types.proofs.extent.Extent.member.Reads as member-reads
+use Rattle.types.proofs.extent.Extent.closing.Reads as closing-reads
 use Rattle.types.proofs.extent.Extent.close.Reads as close-reads
 use Rattle.types.proofs.both.Layouts.in_memory.Reads as in-memory-reads
 use Rattle.types.proofs.both.Layouts.is_good.Reads as layouts-good-reads
@@ -121,12 +122,12 @@ info-back i = rw (count-back (i .«flat_count»))
 rounded-one : (r q : Rounded) → roundedMeans r ≡ roundedMeans q → r ≡ q
 rounded-one = told roundedMeans from back
   where
-    from : Leaf ℕ → Rounded
-    from (is v) = rounded.Value v
+    from : Leaf Rounding → Rounded
+    from (is u) = rounded.Value (u .value) (u .skipped)
     from (no n) = rounded.Refused (refusalOf n)
 
     back : (r : Rounded) → from (roundedMeans r) ≡ r
-    back (rounded.Value v) = refl
+    back (rounded.Value v s) = refl
     back (rounded.Refused r) = ap rounded.Refused (refusal-back r)
 
 count-one : (r q : FlatCount) → countMeans r ≡ countMeans q → r ≡ q
@@ -175,11 +176,11 @@ next-one : (r q : NextField) → nextMeans r ≡ nextMeans q → r ≡ q
 next-one = told nextMeans from back
   where
     from : Leaf Field → NextField
-    from (is f) = next.At (f .offset) (f .end)
+    from (is f) = next.At (f .offset) (f .end) (f .skipped)
     from (no n) = next.Refused (refusalOf n)
 
     back : (r : NextField) → from (nextMeans r) ≡ r
-    back (next.At o e) = refl
+    back (next.At o e s) = refl
     back (next.Refused r) = ap next.Refused (refusal-back r)
 
 variant-one : (r q : VariantAnswer) → variantMeans r ≡ variantMeans q → r ≡ q
@@ -245,6 +246,9 @@ is-large-unique a r q g h = g ∙ sym h
 
 pub member-unique : Single (member-reads.Post tt)
 member-unique a r q g h = g ∙ sym h
+
+pub closing-unique : Single (closing-reads.Post tt)
+closing-unique a r q g h = g ∙ sym h
 
 pub close-unique : Single (close-reads.Post tt)
 close-unique a r q g h = g ∙ sym h

@@ -4,7 +4,7 @@ use mathlib.Core.Path.{_≡_, refl, sym, ap, _∙_}
 use mathlib.Core.Bool.{Bool, true, false, _||_, not, or-false}
 use mathlib.Core.List.{List, [], _∷_}
 use mathlib.Core.Option.{Option, none, some}
-use Prim.Native.Nat.{ℕ, _+_, _≤_, _<_, max, min}
+use Prim.Native.Nat.{ℕ, _+_, _-_, _≤_, _<_, max, min}
 use native.Mathlib.Nat.{zero-add}
 use native.Mathlib.Omega.{arith}
 use lib.Dec.{leb, eqb}
@@ -96,18 +96,21 @@ widest-greatest fs = widest-from (record { size = 0; align = 1 }) fs (omega arit
 pub variant-reach :
     (n : ℕ) (fs : List Layout) →
     Aligned fs →
-    variantStep (discriminant n) (greatest fs) ≡ record { start = payloadOffset n fs; extent = extentAt (variantSize n fs) (variantAlign n fs) }
+    variantStep (discriminant n) (greatest fs)
+    ≡ record { start = payloadOffset n fs; skipped = payloadOffset n fs - discriminant n; extent = extentAt (variantSize n fs) (variantAlign n fs) }
 unfolding variantStep variantSize payloadOffset
 variant-reach n fs w =
     let a : Alignment (variantAlign n fs) = variant-alignment n fs w in
     let offset : payloadOffset n fs ≤ 8 = small in
     let start : min (payloadOffset n fs) fourGiB ≡ payloadOffset n fs = omega arith in
+    let before : min (discriminant n) fourGiB ≡ discriminant n = omega (arith, alignment-most (discriminant-alignment n)) in
     let one : max (variantAlign n fs) (variantAlign n fs) ≡ variantAlign n fs = omega arith in
     rw (
       ← reach-is (discriminant n) (variantAlign n fs) (omega (arith, alignment-most (discriminant-alignment n))),
       member-reach (discriminant n) (variantAlign n fs) (record { size = greatestSize fs; align = variantAlign n fs }) a,
       payload-agrees n fs w,
       start,
+      before,
       one,
       close-reach (payloadOffset n fs + greatestSize fs) (variantAlign n fs) a,
     )

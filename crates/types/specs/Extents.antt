@@ -1,21 +1,26 @@
 -- One memory's step, as the code takes it, for every number. The end stops at 4 GiB, so that too large stays too large.
 -- Over aligned layouts it is canon's exact end (proofs/ExtentLaws).
 use mathlib.Core.Bool.{Bool, cond, _||_}
-use Prim.Native.Nat.{ℕ, _+_, _-_, _/_, _%_, _^_, max, min}
-use lib.Dec.{ltb}
+use Prim.Native.Nat.{ℕ, _+_, _-_, _%_, max, min}
+use lib.Dec.{ltb, eqb}
 use Rattle.canon.specs.Answer.{Leaf, is, no, tooLarge}
 use Rattle.canon.specs.Layout.{Both, both, within, Layout, roundUp, largestNumber}
 use Rattle.canon.specs.Placement.{fourGiB}
 use Rattle.types.specs.declared.extent.Extent.{Extent}
 use Rattle.types.specs.declared.extent.Step.{Step}
+use Rattle.types.specs.declared.round.RoundedUp.{RoundedUp}
 
--- the unit of rounding: an alignment is its own, any other number has one of the four (proofs/RoundLaws)
+-- the unit of rounding: the greatest of 8, 4, 2 and 1 that divides the number. So an alignment is its own (proofs/RoundLaws)
 unfoldable pub unitOf : ℕ → ℕ
-unitOf a = 2 ^ ((a / 2 - a / 8) % 4)
+unitOf a = cond (eqb (a % 8) 0) 8 (cond (eqb (a % 4) 0) 4 (cond (eqb (a % 2) 0) 2 1))
 
 -- canon's rounding, to that unit
 unfoldable pub rounded : ℕ → ℕ → ℕ
 rounded x a = roundUp x (unitOf a)
+
+-- "the rounded value with the bytes it skipped"
+abbrev pub roundedUp : ℕ → ℕ → RoundedUp
+roundedUp x a = record { value = rounded x a; skipped = rounded x a - x }
 
 -- the extent of an exact end
 unfoldable pub extentAt : ℕ → ℕ → Extent
@@ -24,24 +29,27 @@ extentAt e a = record { end = min e fourGiB; align = a }
 abbrev pub startExtent : Extent
 startExtent = record { end = 0; align = 1 }
 
--- a member at the start s, in an extent of the alignment a
-abbrev pub stepAt : ℕ → ℕ → Layout → Step
-stepAt s a f = record { start = s; extent = extentAt (s + f .size) (max a (f .align)) }
+-- a member at a rounded end, in an extent of the alignment a
+abbrev stepAt : RoundedUp → ℕ → Layout → Step
+stepAt up a f = record { start = up .value; skipped = up .skipped; extent = extentAt (up .value + f .size) (max a (f .align)) }
 
 -- one member more, wherever the extent ends
 unfoldable pub memberOf : Extent → Layout → Step
-memberOf x f = stepAt (rounded (min (x .end) fourGiB) (f .align)) (x .align) f
+memberOf x f = stepAt (roundedUp (min (x .end) fourGiB) (f .align)) (x .align) f
 
 -- one more member of no size
-unfoldable pub closeOf : Extent → Extent
-closeOf x = memberOf x (record { size = 0; align = x .align }) .extent
+unfoldable pub closing : Extent → Step
+closing x = memberOf x (record { size = 0; align = x .align })
+
+abbrev pub closeOf : Extent → Extent
+closeOf x = closing x .extent
 
 -- the greater size and the greater alignment
 abbrev pub widest : Layout → Layout → Layout
 widest f g = record { size = max (f .size) (g .size); align = max (f .align) (g .align) }
 
 abbrev closedStep : Step → Step
-closedStep s = record { start = s .start; extent = closeOf (s .extent) }
+closedStep s = record { start = s .start; skipped = s .skipped; extent = closeOf (s .extent) }
 
 -- a discriminant of d bytes, payloads of s bytes and the alignment a of both
 abbrev variantAt : ℕ → ℕ → ℕ → Step

@@ -2,7 +2,7 @@
 use mathlib.Core.Bool.{Bool, true, _&&_, cond, not}
 use mathlib.Core.List.{List, [], _∷_, _++_, map}
 use mathlib.Core.Option.{Option, none, some}
-use Prim.Native.Nat.{ℕ, _+_}
+use Prim.Native.Nat.{ℕ}
 use lib.Dec.{leb, eqb}
 use lib.ListN.{length}
 use Rattle.canon.specs.Answer.{Leaf, is, no, badCount, tooLarge, badRow}
@@ -31,6 +31,7 @@ use Rattle.canon.specs.Layout.{
   endAfter,
   mostFlags,
 }
+use Rattle.canon.specs.Gaps.{skippedTo}
 use Rattle.canon.specs.Flat.{sumFlat, variantCount, flagsCount, timesFlat}
 use Rattle.canon.specs.Row.{Abi, isAlignment, goodAbi}
 use Rattle.canon.specs.Description.{someAbove}
@@ -47,9 +48,17 @@ fitting ns a = cond (someAbove largestNumber ns) (no tooLarge) (is a)
 abbrev pub inEither : (Memory → List ℕ) → List ℕ
 inEither f = f mem32 ++ f mem64
 
--- `align_to`: "An alignment other than 1, 2, 4 or 8 gives 8; else a rounded value above 4294967295 gives 6"
-unfoldable pub alignTo : ℕ → ℕ → Leaf ℕ
-alignTo x a = given (isAlignment a) badRow (fitting (roundUp x a ∷ []) (roundUp x a))
+-- `align_to`: "the rounded value with the bytes it skipped"
+pub record Rounding : Type 0 where
+  pub value : ℕ
+  pub skipped : ℕ
+
+abbrev pub roundingTo : ℕ → ℕ → Rounding
+roundingTo x a = record { value = roundUp x a; skipped = skippedTo x a }
+
+-- "An alignment other than 1, 2, 4 or 8 gives 8; else a rounded value above 4294967295 gives 6"
+unfoldable pub alignTo : ℕ → ℕ → Leaf Rounding
+alignTo x a = given (isAlignment a) badRow (fitting (roundUp x a ∷ []) (roundingTo x a))
 
 -- `scalar`: "alignment equal to size, flat 1"
 abbrev pub scalarAbi : ℕ → Abi
@@ -59,14 +68,17 @@ scalarAbi n = record { layouts = both (λ m. square n); flats = some 1 }
 abbrev pub groupedAbi : ℕ → Abi
 groupedAbi k = record { layouts = both (λ m. grouped k); flats = some k }
 
--- `next_field32` and `next_field64`: "answer the offset and hand the moved end back"
+-- `next_field32` and `next_field64`, as order 10 amends 01: "answer the offset with the bytes skipped before it, and hand the moved end back"
 pub record Field : Type 0 where
   pub offset : ℕ
   pub end : ℕ
+  pub skipped : ℕ
 
 unfoldable pub fieldAfter : ℕ → Layout → Leaf Field
 fieldAfter e f =
-    fitting (starts e (f ∷ []) ++ ends e (f ∷ [])) (record { offset = roundUp e (f .align); end = endAfter e f })
+    fitting
+    (starts e (f ∷ []) ++ ends e (f ∷ []))
+    (record { offset = roundUp e (f .align); end = endAfter e f; skipped = skippedTo e (f .align) })
 
 -- "8 for a bad info, before 6"
 unfoldable pub nextField : Memory → Abi → ℕ → Leaf Field

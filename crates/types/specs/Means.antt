@@ -5,7 +5,7 @@ use Rattle.canon.specs.Answer.{Leaf, is, no, tooLong, truncated, badKind, badRe
 use Rattle.canon.specs.Layout as canon
 use Rattle.canon.specs.Layout.{mem32, mem64, Both}
 use Rattle.canon.specs.Row.{Abi}
-use Rattle.types.specs.Leaves.{Field, VariantAbi}
+use Rattle.types.specs.Leaves.{Rounding, Field, VariantAbi}
 use Rattle.types.specs.declared.refusal.Refusal.{Refusal}
 use Rattle.types.specs.declared.refusal.Refusal.the-variants.{TooLong, Truncated, BadKind, BadRef, BadCount, TooLarge, NoRoom, BadRow, TooDeep}
 use Rattle.types.specs.declared.round.Rounded.{Rounded}
@@ -46,8 +46,8 @@ numberOf NoRoom = noRoom
 numberOf BadRow = badRow
 numberOf TooDeep = tooDeep
 
-abbrev pub roundedMeans : Rounded → Leaf ℕ
-roundedMeans (rounded.Value v) = is v
+abbrev pub roundedMeans : Rounded → Leaf Rounding
+roundedMeans (rounded.Value v s) = is (record { value = v; skipped = s })
 roundedMeans (rounded.Refused r) = no (numberOf r)
 
 abbrev pub countMeans : FlatCount → Option ℕ
@@ -109,7 +109,7 @@ infoAnswerMeans (info.Info i) = is (abiMeans i)
 infoAnswerMeans (info.Refused r) = no (numberOf r)
 
 abbrev pub nextMeans : NextField → Leaf Field
-nextMeans (next.At o e) = is (record { offset = o; end = e })
+nextMeans (next.At o e s) = is (record { offset = o; end = e; skipped = s })
 nextMeans (next.Refused r) = no (numberOf r)
 
 abbrev pub variantMeans : VariantAnswer → Leaf VariantAbi

@@ -4,7 +4,7 @@ ghost use Prim.Native.Nat.{_*_, min};
 ghost use Rattle.canon.specs.Placement.{fourGiB};
 ghost use Rattle.canon.specs.Row.{goodLayout};
 ghost use Rattle.types.specs.Means.{layoutMeans, bytesOf};
-ghost use Rattle.types.specs.Extents.{extentAt, isLarge, memberOf, closeOf, variantStep, widest};
+ghost use Rattle.types.specs.Extents.{extentAt, isLarge, memberOf, closing, closeOf, variantStep, widest};
 use crate::discriminant::DiscriminantSize;
 use crate::round::LARGEST;
 use crate::round::is_alignment;
@@ -22,9 +22,10 @@ pub struct Extent {
     pub align: u32,
 }
 
-// Tells where a member starts, and the extent with it.
+// Tells where a member starts, the bytes skipped before it, and the extent with it.
 pub struct Step {
     pub start: u64,
+    pub skipped: u32,
     pub extent: Extent,
 }
 
@@ -83,10 +84,11 @@ impl Extent {
     pub fn member(self, member: Layout) -> Step
         ensures { λ r. ⌜ r ≡ memberOf self (layoutMeans member) ⌝ }
     {
-        let start = round_up(stopped(self.end), member.align);
-        let end = start + member.size as u64;
+        let up = round_up(stopped(self.end), member.align);
+        let end = up.value + member.size as u64;
         Step {
-            start,
+            start: up.value,
+            skipped: up.skipped,
             extent: Extent {
                 end: stopped(end),
                 align: max(self.align, member.align),
@@ -94,14 +96,21 @@ impl Extent {
         }
     }
 
+    // A member of no size moves the end on to the size, and skips the bytes after the last.
+    pub fn closing(self) -> Step
+        ensures { λ r. ⌜ r ≡ closing self ⌝ }
+    {
+        self.member(Layout {
+            size: 0,
+            align: self.align,
+        })
+    }
+
     // The end becomes the size.
     pub fn close(self) -> Extent
         ensures { λ r. ⌜ r ≡ closeOf self ⌝ }
     {
-        let step = self.member(Layout {
-            size: 0,
-            align: self.align,
-        });
+        let step = self.closing();
         step.extent
     }
 
@@ -122,6 +131,7 @@ impl Extent {
         let extent = step.extent;
         Step {
             start: step.start,
+            skipped: step.skipped,
             extent: extent.close(),
         }
     }

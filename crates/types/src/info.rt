@@ -34,9 +34,9 @@ pub enum InfoAnswer {
     Refused(Refusal),
 }
 
-// Tells where a field starts, and where the next may at the earliest.
+// Tells where a field starts, where the next may at the earliest, and the bytes skipped before the field.
 pub enum NextField {
-    At { offset: u32, end: u32 },
+    At { offset: u32, end: u32, skipped: u32 },
     Refused(Refusal),
 }
 
@@ -253,5 +253,6 @@ fn field_after(end: u32, field: Layout) -> NextField
     NextField::At {
         offset: step.start as u32,
         end: extent.end as u32,
+        skipped: step.skipped,
     }
 }

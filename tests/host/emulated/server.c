@@ -43,22 +43,22 @@ static u64 over_numbers(u32 function, const u32 *x)
 }
 
 /* A function that makes the call asked for, of those whose names end in SUFFIX: x the numbers, a to c the slices, o the
- * first buffer to be written, each with its length in units. No call is lent a second one yet. */
+ * first buffer to be written and g the second, each with its length in units. */
 #define LENT_CALLS(RUN, TYPE, SUFFIX)                                                                   \
     static u64 RUN(u32 function, const u32 *x, const void *const slices[SLICES], const usize bytes[SLICES], \
                    void *const written[WRITTEN], const usize written_bytes[WRITTEN])                    \
     {                                                                                                   \
         const TYPE *a = slices[0], *b = slices[1], *c = slices[2];                                      \
         usize la = bytes[0] / sizeof(TYPE), lb = bytes[1] / sizeof(TYPE), lc = bytes[2] / sizeof(TYPE); \
-        TYPE *o = written[0];                                                                           \
-        usize lo = written_bytes[0] / sizeof(TYPE);                                                     \
+        TYPE *o = written[0], *g = written[1];                                                          \
+        usize lo = written_bytes[0] / sizeof(TYPE), lg = written_bytes[1] / sizeof(TYPE);               \
         switch (function) {                                                                             \
         case 9: return lampughjata_record##SUFFIX(a, la, x[0]);                                         \
         case 10: return lampughjata_variant##SUFFIX(a, la, x[0]);                                       \
         case 11: return lampughjata_build##SUFFIX(a, la, o, lo);                                        \
         case 12: return lampughjata_type##SUFFIX(a, la, x[0], x[1], x[2]);                              \
         case 13: return lampughjata_size_align##SUFFIX(x[0], a, la, x[1], x[2]);                        \
-        case 14: return lampughjata_placement##SUFFIX(x[0], a, la, x[1], b, lb, o, lo);                 \
+        case 14: return lampughjata_placement##SUFFIX(x[0], a, la, x[1], b, lb, o, lo, g, lg);          \
         case 15: return lampughjata_flatten##SUFFIX(x[0], x[1], a, la, x[2], b, lb);                    \
         case 16: return lampughjata_lowering##SUFFIX(x[0], x[1], a, la, x[2], b, lb);                   \
         case 17: return lampughjata_lifting##SUFFIX(x[0], x[1], a, la, x[2], b, lb);                    \

@@ -58,8 +58,8 @@ pub enum Question {
     Placement {
         memory: u32,
         references: Vec<u32>,
-        /// The length of the lent buffer, in words.
-        room: usize,
+        /// The lengths of the lent buffers in words: the offsets', then the gaps'.
+        rooms: [usize; WRITTEN],
     },
     Flatten {
         memory: u32,
@@ -93,7 +93,7 @@ pub enum Question {
     },
 }
 
-/// The most buffers that a call is lent to write. No call is lent a second one yet.
+/// The most buffers that a call is lent to write: a placement's offsets and its gaps.
 pub const WRITTEN: usize = 2;
 
 impl Question {
@@ -137,8 +137,8 @@ impl Question {
     /// The length of each buffer that the question lends, in words.
     pub fn rooms(&self) -> [Option<usize>; WRITTEN] {
         match self {
-            Question::Placement { room, .. } => [Some(*room), None],
-            _ => [None, None],
+            Question::Placement { rooms, .. } => rooms.map(Some),
+            _ => [None; WRITTEN],
         }
     }
 }

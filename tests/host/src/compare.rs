@@ -9,6 +9,7 @@ use crate::tally::Tally;
 use crate::{encode, model, reading};
 use oracle::{Original, Stopped};
 use std::fmt::Debug;
+use std::ops::Range;
 
 /// Words before and after each lent buffer, which no call may touch.
 pub const GUARD: usize = 8;
@@ -64,7 +65,7 @@ impl Run {
             _ => Outcome::Nothing,
         };
         let apart = original::is_stand_in(leaf);
-        self.judge(leaf, expected, &[], outcome, apart);
+        self.judge(leaf, expected, [&[]; WRITTEN], outcome, apart);
         match leaf {
             Leaf::Record { infos: words, .. } | Leaf::Variant { cases: words, .. } => {
                 let bytes = bytes_of(words);
@@ -146,23 +147,7 @@ impl Run {
         let before = question.rooms().map(|room| self.lent_if(room));
         let mut expected = before.clone();
         let said = model_ask(subject, question, &mut expected);
-        if let (Some(original), 0 | 6) = (&mut subject.original, encode::refusal(said)) {
-            let mut held = question.references().filter_map(model::definition_named);
-            let apart = held.any(|index| subject.suspects.get(index) == Some(&true));
-            let outcome = original::ask(original, question);
-            // The original has no rows read back.
-            let without_reads = match question {
-                Question::Placement { .. } => encode::PLACEMENT_READS.without(said),
-                _ => said,
-            };
-            self.judge(
-                question,
-                without_reads,
-                offsets_of(&expected),
-                outcome,
-                apart,
-            );
-        }
+        self.ask_original(subject, question, said, &expected);
         let lists = question.lists().map(bytes_of);
         let lists = lists.each_ref().map(|list| &list[..]);
         let table = &subject.bytes[..4 * subject.table.len()];
@@ -173,6 +158,30 @@ impl Run {
         if self.random.once_in(self.bytes_once_in) {
             self.ask_bytes(subject, question, said);
         }
+    }
+
+    /// The original's answer against the model's, which wrote this; a refusal other than 6 has none.
+    fn ask_original(
+        &mut self,
+        subject: &mut Subject,
+        question: &Question,
+        said: u64,
+        written: &[Vec<u32>; WRITTEN],
+    ) {
+        let (Some(original), 0 | 6) = (&mut subject.original, encode::refusal(said)) else {
+            return;
+        };
+        let mut held = question.references().filter_map(model::definition_named);
+        let apart = held.any(|index| subject.suspects.get(index) == Some(&true));
+        let mut outcome = original::ask(original, question);
+        Fault::original_gaps(self.fault, &mut outcome);
+        // The original has no rows read back.
+        let without_reads = match question {
+            Question::Placement { .. } => encode::PLACEMENT_READS.without(said),
+            _ => said,
+        };
+        let written = written.each_ref().map(|words| &words[part(words.len())]);
+        self.judge(question, without_reads, written, outcome, apart);
     }
 
     /// The byte call must answer as the word call did and write what the model does.
@@ -337,7 +346,7 @@ impl Run {
         &mut self,
         what: &dyn Debug,
         said: u64,
-        offsets: &[u32],
+        written: [&[u32]; WRITTEN],
         outcome: Outcome,
         apart: bool,
     ) {
@@ -352,9 +361,10 @@ impl Run {
             return;
         }
         let same = match &outcome {
-            Outcome::Is(answer, placed) => {
+            Outcome::Is(answer, buffers) => {
                 let answer = Fault::original_answer(self.fault, *answer);
-                answer == said && offsets.starts_with(placed)
+                let mut both = written.iter().zip(buffers);
+                answer == said && both.all(|(words, numbers)| words.starts_with(numbers))
             }
             Outcome::Saturated(answer) => *answer == said,
             Outcome::Panicked => false,
@@ -391,18 +401,18 @@ pub fn bytes_of(words: &[u32]) -> Vec<u8> {
 
 /// The model's answer, as the boundary has it; the buffers have their guards.
 fn model_ask(subject: &Subject, question: &Question, written: &mut [Vec<u32>; WRITTEN]) -> u64 {
-    let parts = written.each_mut().map(|words| match words.len() {
-        0 => &mut words[..],
-        length => &mut words[GUARD..length - GUARD],
+    let parts = written.each_mut().map(|words| {
+        let part = part(words.len());
+        &mut words[part]
     });
     encode::answer(model::ask(question, &subject.table, subject.n, parts))
 }
 
-/// A placement's offsets and what follows them, without guards; empty if nothing was lent.
-fn offsets_of(written: &[Vec<u32>; WRITTEN]) -> &[u32] {
-    match written[0].len() {
-        0 => &[],
-        length => &written[0][GUARD..length - GUARD],
+/// What a call is lent of a buffer of so many words, guards and all; nothing of none.
+fn part(words: usize) -> Range<usize> {
+    match words {
+        0 => 0..0,
+        _ => GUARD..words - GUARD,
     }
 }
 
@@ -432,21 +442,48 @@ fn judge_port(tally: &mut Tally, fault: Option<Fault>, mut answered: Answered) {
     let said = answered.expected_answer;
     let same = answered.answer == said && answered.after == answered.expected_after;
     tally.read_back += u64::from(answered.call.function.has_read(said));
-    tally.coverage.asked(&answered.call, said);
+    tally
+        .coverage
+        .asked(&answered.call, said, answered.expected_after);
     tally.answer(same, answered.call.cell == Cell::Byte, || {
         let (call, answer) = (&answered.call, answered.answer);
         let memory = first_difference(&answered);
         format!("{call:?}\n    port: {answer:#x}\n    model: {said:#x}\n    {memory}")
     });
-    if same && answered.call.function == Function::Build {
-        let lent = &answered.after[0];
-        let table = model::words_of(&lent[4 * GUARD..lent.len() - 4 * GUARD]);
-        for index in 0..encode::accepted(said) as usize {
-            let mut row = model::row(&table, index);
-            Fault::PortMemories.exchange(fault, &mut row);
-            tally.port_row(&row);
+    match answered.call.function {
+        Function::Build if same => judge_rows(tally, fault, &answered),
+        Function::Placement if same && encode::refusal(said) == 0 => {
+            judge_sum(tally, fault, &answered);
         }
+        _ => {}
     }
+}
+
+/// The rows that a build wrote, in the two memories.
+fn judge_rows(tally: &mut Tally, fault: Option<Fault>, answered: &Answered) {
+    let lent = &answered.after[0];
+    let table = model::words_of(&lent[4 * GUARD..lent.len() - 4 * GUARD]);
+    for index in 0..encode::accepted(answered.answer) as usize {
+        let mut row = model::row(&table, index);
+        Fault::PortMemories.exchange(fault, &mut row);
+        tally.port_row(&row);
+    }
+}
+
+/// Order 10, of an accepted placement: "Gaps plus member sizes equal the record's size."
+fn judge_sum(tally: &mut Tally, fault: Option<Fault>, answered: &Answered) {
+    let [table, references, _] = answered.call.slices.map(model::words_of);
+    let gaps = &model::words_of(&answered.after[1])[GUARD..][..references.len()];
+    let before: u64 = gaps.iter().copied().map(u64::from).sum();
+    let mut after = encode::GAP_AFTER.of(answered.answer);
+    Fault::PortSum.one_byte_more(fault, &mut after);
+    let sizes = model::member_sizes(answered.call.numbers[0], &table, &references);
+    let members: u64 = sizes.iter().sum();
+    let size = encode::size(answered.answer);
+    tally.sum(before + after + members == size, before + after > 0, || {
+        let call = &answered.call;
+        format!("{call:?}\n    size {size}, members {members}, gaps {gaps:?} and {after}")
+    });
 }
 
 fn first_difference(answered: &Answered) -> String {

@@ -206,7 +206,9 @@ fn row(row: &model::Row) -> String {
 
 fn outcome(outcome: Outcome) -> String {
     match outcome {
-        Outcome::Is(answer, _) | Outcome::Saturated(answer) => answer.to_string(),
+        // The bytes that a rounding skipped are not the original's.
+        Outcome::Is(answer, _) => encode::SKIPPED.without(answer).to_string(),
+        Outcome::Saturated(answer) => answer.to_string(),
         Outcome::Panicked => "panics".to_string(),
         Outcome::Nothing => "has no such call".to_string(),
     }
@@ -275,9 +277,9 @@ fn limits() {
     let question = Question::Placement {
         memory: 0,
         references: vec![2; 16_385],
-        room: 16_385,
+        rooms: [16_385; 2],
     };
-    let asked = model::ask(&question, &[], 0, [&mut [0; 16_385], &mut []]);
+    let asked = model::ask(&question, &[], 0, [&mut [0; 16_385], &mut [0; 16_385]]);
     println!("    model:    {}", ended(asked));
 }
 

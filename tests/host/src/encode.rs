@@ -21,14 +21,23 @@ pub fn accepted(answer: u64) -> u64 {
     answer & u64::from(u32::MAX)
 }
 
-/// The bits of an answer, from this one to bit 55, that report how many rows were read back (order 6).
+/// The size that a placement answers.
+pub fn size(answer: u64) -> u64 {
+    answer & u64::from(u32::MAX)
+}
+
+/// The bits of an answer that hold a number beside its first one: from this bit to before that one.
 #[derive(Clone, Copy)]
-pub struct ReadsBits(u32);
+pub struct Bits(u32, u32);
 
-pub const BUILD_READS: ReadsBits = ReadsBits(32);
-pub const PLACEMENT_READS: ReadsBits = ReadsBits(40);
+/// How many rows were read back (order 6).
+pub const BUILD_READS: Bits = Bits(32, 56);
+pub const PLACEMENT_READS: Bits = Bits(40, 56);
+/// The bytes that a rounding skipped, and a placement's gap after the last member (order 10).
+pub const SKIPPED: Bits = Bits(32, 40);
+pub const GAP_AFTER: Bits = Bits(36, 40);
 
-impl ReadsBits {
+impl Bits {
     /// The number; 0 in a refusal, which has nothing in these bits.
     pub fn of(self, answer: u64) -> u64 {
         (answer & self.bits()) >> self.0
@@ -39,12 +48,12 @@ impl ReadsBits {
     }
 
     /// The answer with this number in the place of its own.
-    pub fn with(self, answer: u64, reads: u64) -> u64 {
-        self.without(answer) | reads << self.0
+    pub fn with(self, answer: u64, number: u64) -> u64 {
+        self.without(answer) | number << self.0
     }
 
     fn bits(self) -> u64 {
-        (1 << 56) - (1 << self.0)
+        (1 << self.1) - (1 << self.0)
     }
 }
 
@@ -58,9 +67,15 @@ pub fn layout(size: u64, align: u64) -> u64 {
     size | align << 32
 }
 
-/// A layout whose alignment has bits 32 to 35 alone, four bits that are 0, then the rows read back.
-pub fn placement(size: u64, align: u64, reads: u64) -> u64 {
-    PLACEMENT_READS.with(layout(size, align), reads)
+/// The rounded value in the low 32 bits, then the bytes skipped.
+pub fn rounded(value: u64, skipped: u64) -> u64 {
+    SKIPPED.with(value, skipped)
+}
+
+/// A layout whose alignment has bits 32 to 35 alone, then the gap after the last member, then the rows read
+/// back.
+pub fn placement(size: u64, align: u64, after: u64, reads: u64) -> u64 {
+    PLACEMENT_READS.with(GAP_AFTER.with(layout(size, align), after), reads)
 }
 
 /// The packed types in bits 0 to 33, their count in bits 40 to 47.

@@ -9,6 +9,8 @@ use crate::port::{Answered, Call, Cell, Function};
 use crate::reading;
 use std::collections::HashSet;
 
+mod padding;
+
 /// What is wrong on purpose.
 #[derive(Clone, Copy, PartialEq, Eq, Debug)]
 pub enum Fault {
@@ -65,6 +67,44 @@ pub enum Fault {
     RefusedBuild,
     /// A refused placement reports what it read back before.
     RefusedPlacement,
+    /// A rounding counts what it skipped from the value that it answers, and finds nothing.
+    SkippedAfter,
+    /// Every k above 1 chooses the moved end of a field.
+    OldField,
+    /// The gap after the last member is reckoned by that member's alignment, which leaves none.
+    LastAlignment,
+    /// A placement writes gaps of 0.
+    NoGaps,
+    /// Each gap stands one place too early: the one after a member is written for it.
+    GapBehind,
+    /// The gap before a member of no bytes is given to the next one.
+    GapOfEmpty,
+    /// The gap after the last member is written behind the others.
+    GapAtTheEnd,
+    /// The gaps of more than 1,024 members are lost from there on.
+    LateGaps,
+    /// The seventeenth gap is lost over bytes.
+    ByteGap,
+    /// The byte after the gap buffer's last whole word is written.
+    GapByteTail,
+    /// The last byte of a gap buffer of more than 16,384 words is changed over bytes.
+    LongGaps,
+    /// A placement has written an offset before its last member is too large.
+    LastTooLarge,
+    /// A placement has written a gap before its size alone is too large.
+    SizeTooLarge,
+    /// A placement without room for the gaps has written an offset.
+    NoRoomForGaps,
+    /// A placement without room for the offsets has written a gap.
+    NoRoomForOffsets,
+    /// Room is tested for the offsets alone.
+    OneRoom,
+    /// The port's gaps come to one byte more, after the comparison, so that they agree with the model.
+    PortSum,
+    /// The last gap that follows from the original's offsets is one too great.
+    OriginalGap,
+    /// The gap after the last member that follows from the original's size is one too great.
+    OriginalAfter,
     /// The port's built rows have the memories exchanged, after the comparison, so that they agree with the model.
     PortMemories,
     /// The same of the original's.
@@ -75,7 +115,7 @@ pub enum Fault {
     OriginalList,
 }
 
-pub const FAULTS: [Fault; 30] = [
+pub const FAULTS: [Fault; 49] = [
     Fault::OffsetOneOff,
     Fault::PositionOneOff,
     Fault::TableWord,
@@ -102,6 +142,25 @@ pub const FAULTS: [Fault; 30] = [
     Fault::RepeatOnce,
     Fault::RefusedBuild,
     Fault::RefusedPlacement,
+    Fault::SkippedAfter,
+    Fault::OldField,
+    Fault::LastAlignment,
+    Fault::NoGaps,
+    Fault::GapBehind,
+    Fault::GapOfEmpty,
+    Fault::GapAtTheEnd,
+    Fault::LateGaps,
+    Fault::ByteGap,
+    Fault::GapByteTail,
+    Fault::LongGaps,
+    Fault::LastTooLarge,
+    Fault::SizeTooLarge,
+    Fault::NoRoomForGaps,
+    Fault::NoRoomForOffsets,
+    Fault::OneRoom,
+    Fault::PortSum,
+    Fault::OriginalGap,
+    Fault::OriginalAfter,
     Fault::PortMemories,
     Fault::OriginalMemories,
     Fault::OriginalSize,
@@ -120,6 +179,7 @@ impl Fault {
                 numbers[4] = numbers[4].min(255);
             }
             (Some(Fault::OtherHalf), Function::AsyncStart) => numbers[4] = 0,
+            (Some(Fault::OldField), Function::NextField) => numbers[7] = numbers[7].min(1),
             (Some(Fault::ShortList), Function::Flatten) if call.cell == Cell::Byte => {
                 let list = &mut call.slices[1];
                 if list.len() / 4 == 17 {
@@ -142,6 +202,7 @@ impl Fault {
         if let Some(fault) = fault {
             fault.in_memory(answered);
             fault.in_depths(answered);
+            fault.in_padding(answered);
             fault.in_reads(&answered.call, &mut answered.answer);
             fault.in_answer(&answered.call, &mut answered.answer);
         }

@@ -1,5 +1,5 @@
 //! The original, asked the boundary's calls.
-use crate::calls::{Info, Leaf, Question, Side};
+use crate::calls::{Info, Leaf, Question, Side, WRITTEN};
 use crate::encode;
 use oracle::component::{CanonicalAbiInfo, InterfaceType, VariantInfo, types_opened};
 use oracle::{Flat, Original, guarded};
@@ -7,7 +7,8 @@ use oracle::{Flat, Original, guarded};
 /// What the original makes of a call.
 #[derive(Clone, Debug)]
 pub enum Outcome {
-    Is(u64, Vec<u32>),
+    /// The answer, and what stands in the buffers that are written.
+    Is(u64, [Vec<u32>; WRITTEN]),
     /// It answered with a size of 4294967295, which may be what became of a greater one.
     Saturated(u64),
     /// An assertion failed or a sum overflowed.
@@ -18,7 +19,12 @@ pub enum Outcome {
 
 impl Outcome {
     fn of(answer: Option<u64>) -> Outcome {
-        answer.map_or(Outcome::Panicked, |answer| Outcome::Is(answer, vec![]))
+        answer.map_or(Outcome::Panicked, Outcome::is)
+    }
+
+    /// An answer without buffers.
+    fn is(answer: u64) -> Outcome {
+        Outcome::Is(answer, [vec![], vec![]])
     }
 }
 
@@ -33,7 +39,7 @@ pub fn is_stand_in(leaf: &Leaf) -> bool {
 
 pub fn leaf(leaf: &Leaf) -> Outcome {
     match leaf {
-        Leaf::AlignTo(a, b) => Outcome::of(guarded(|| types_opened::align_to(*a, *b).into())),
+        Leaf::AlignTo(a, b) => Outcome::of(guarded(|| align_to(*a, *b))),
         Leaf::Max(a, b) => Outcome::of(Some(types_opened::max(*a, *b).into())),
         Leaf::AddFlat(a, b) => {
             let sum = types_opened::add_flat(flat_count(*a), flat_count(*b));
@@ -48,14 +54,7 @@ pub fn leaf(leaf: &Leaf) -> Outcome {
             info,
             end,
             k,
-        } => Outcome::of(guarded(|| {
-            let mut end = *end;
-            let offset = match memory {
-                0 => abi(info).next_field32(&mut end),
-                _ => abi(info).next_field64(&mut end),
-            };
-            u64::from(if *k == 0 { offset } else { end })
-        })),
+        } => Outcome::of(guarded(|| next_field(*memory, info, *end, *k))),
         Leaf::Flags(count, k) => {
             let flags = guarded(|| CanonicalAbiInfo::flags(*count as usize));
             Outcome::of(flags.map(|flags| number(&flags, *k)))
@@ -69,7 +68,7 @@ pub fn leaf(leaf: &Leaf) -> Outcome {
             let saturated = list.size32 == u32::MAX || list.size64 == u32::MAX;
             match saturated {
                 true => Outcome::Saturated(number(&list, *k)),
-                false => Outcome::Is(number(&list, *k), vec![]),
+                false => Outcome::is(number(&list, *k)),
             }
         }
         Leaf::Discriminant(_) => Outcome::Nothing,
@@ -84,6 +83,26 @@ pub fn leaf(leaf: &Leaf) -> Outcome {
             Outcome::of(record.map(|record| number(&record, *k)))
         }
         Leaf::Variant { cases, k } => variant(cases, *k),
+    }
+}
+
+/// What it skipped follows from its value.
+fn align_to(place: u32, align: u32) -> u64 {
+    let value = types_opened::align_to(place, align);
+    encode::rounded(value.into(), distance(place, value))
+}
+
+/// What it skipped follows from the offset.
+fn next_field(memory: u32, info: &Info, end: u32, k: u32) -> u64 {
+    let mut moved = end;
+    let offset = match memory {
+        0 => abi(info).next_field32(&mut moved),
+        _ => abi(info).next_field64(&mut moved),
+    };
+    match k {
+        0 => offset.into(),
+        1 => moved.into(),
+        _ => distance(end, offset),
     }
 }
 
@@ -115,7 +134,7 @@ pub fn ask(original: &mut Original, question: &Question) -> Outcome {
     let [Some(first), Some(second)] = lists else {
         return Outcome::Nothing;
     };
-    let is = |answer: u64| Outcome::Is(answer, vec![]);
+    let is = Outcome::is;
     match question {
         Question::Type { reference, k } => match original.reference(*reference) {
             Some(ty) => is(match k {
@@ -131,14 +150,7 @@ pub fn ask(original: &mut Original, question: &Question) -> Outcome {
             }
             None => Outcome::Nothing,
         },
-        Question::Placement { memory, .. } => match original.placement(*memory != 0, &first) {
-            // It has no number of rows read back.
-            Some(placed) => Outcome::Is(
-                encode::placement(placed.size.into(), placed.align.into(), 0),
-                placed.offsets,
-            ),
-            None => Outcome::Panicked,
-        },
+        Question::Placement { memory, .. } => placement(original, *memory != 0, &first),
         Question::Flatten { memory, max, .. } => is(list_or_memory(original.flatten(
             *memory != 0,
             *max as usize,
@@ -178,6 +190,29 @@ pub fn ask(original: &mut Original, question: &Question) -> Outcome {
             Outcome::of(original.contains_borrow(&first, &[]).map(u64::from))
         }
     }
+}
+
+/// It has no gaps: they follow from its offsets and the sizes that it gives the members, the one after the last
+/// from its own size. It has no number of rows read back either.
+fn placement(original: &Original, memory64: bool, types: &[InterfaceType]) -> Outcome {
+    let Some(placed) = original.placement(memory64, types) else {
+        return Outcome::Panicked;
+    };
+    let mut end = 0;
+    let mut gaps = Vec::with_capacity(types.len());
+    for (ty, offset) in types.iter().zip(&placed.offsets) {
+        gaps.push(distance(end, *offset) as u32);
+        let (size, _) = original.size_align(memory64, ty);
+        end = offset.wrapping_add(size);
+    }
+    let after = distance(end, placed.size);
+    let answer = encode::placement(placed.size.into(), placed.align.into(), after, 0);
+    Outcome::Is(answer, [placed.offsets, gaps])
+}
+
+/// The bytes from one place to another. No gap has more than 7: 8 stands for more, and for a place that is before.
+fn distance(from: u32, to: u32) -> u64 {
+    to.wrapping_sub(from).min(8).into()
 }
 
 fn side_of(side: Side) -> oracle::Side {

@@ -23,6 +23,9 @@ pub struct Tally {
     /// Rows that builds wrote, whose numbers for 64 were compared with those for 32.
     pub port_rows: u64,
     pub original_rows: u64,
+    /// Placements of the port whose gaps and members were summed, and those of them that have a gap.
+    pub sums: u64,
+    pub with_gaps: u64,
     /// Where 01 refuses as too large: the original panicked, or gave 4294967295.
     pub panicked: u64,
     pub saturated: u64,
@@ -54,6 +57,8 @@ impl Tally {
             apart: 0,
             port_rows: 0,
             original_rows: 0,
+            sums: 0,
+            with_gaps: 0,
             panicked: 0,
             saturated: 0,
             went_on: 0,
@@ -100,6 +105,13 @@ impl Tally {
         self.consistent(model::never_smaller(row), || {
             format!("a row of the {whose} is smaller for 64 than for 32: {row:?}")
         });
+    }
+
+    /// A placement that the port accepted, and whether its gaps and members come to its size.
+    pub fn sum(&mut self, holds: bool, has_gaps: bool, report: impl FnOnce() -> String) {
+        self.sums += 1;
+        self.with_gaps += u64::from(has_gaps);
+        self.consistent(holds, report);
     }
 
     pub fn overflow(&mut self, panicked: bool, saturated: bool, report: impl FnOnce() -> String) {
@@ -166,7 +178,7 @@ impl Tally {
         format!(
             "{} answers of the port compared with the model ({} by byte calls, {} with rows read back), \
              {} of the original with the model, {} apart (stand-ins), {} rows of the port and {} of the original compared in \
-             the two memories, {} refusals 6 where the original panicked and {} where it saturated, {} \
+             the two memories, {} placements summed, {} of them with gaps, {} refusals 6 where the original panicked and {} where it saturated, {} \
              refusals 9 where it went on and {} where it panicked, in {} s: {} differences",
             self.answers,
             self.by_bytes,
@@ -175,6 +187,8 @@ impl Tally {
             self.apart,
             self.port_rows,
             self.original_rows,
+            self.sums,
+            self.with_gaps,
             self.panicked,
             self.saturated,
             self.went_on,

@@ -75,11 +75,18 @@ impl Type {
 #[derive(Clone, Copy, PartialEq, Eq, Debug)]
 pub struct TooLarge;
 
-/// The first multiple of the alignment at or after a place.
-pub fn round_up(place: u64, align: u64) -> u64 {
-    let mut rounded = place;
-    while rounded % align != 0 {
-        rounded += 1;
+/// The first multiple of the alignment at or after a place, "with the bytes it skipped" (order 10).
+pub struct Rounded {
+    pub place: u64,
+    pub skipped: u64,
+}
+
+/// Goes on byte by byte.
+pub fn round_up(place: u64, align: u64) -> Rounded {
+    let mut rounded = Rounded { place, skipped: 0 };
+    while rounded.place % align != 0 {
+        rounded.place += 1;
+        rounded.skipped += 1;
     }
     rounded
 }
@@ -223,7 +230,7 @@ pub fn place(members: &[Layout]) -> Result<Placement, Passes> {
     let mut starts = Vec::with_capacity(members.len());
     let mut end = 0;
     for (position, member) in members.iter().enumerate() {
-        let start = round_up(end, member.align);
+        let start = round_up(end, member.align).place;
         end = start + member.size;
         if start > LIMIT || end > LIMIT {
             return Err(Passes::Member(position));
@@ -231,7 +238,7 @@ pub fn place(members: &[Layout]) -> Result<Placement, Passes> {
         starts.push(start);
     }
     let align = members.iter().map(|member| member.align).max().unwrap_or(1);
-    let size = round_up(end, align);
+    let size = round_up(end, align).place;
     if size > LIMIT {
         return Err(Passes::Size);
     }
@@ -315,8 +322,8 @@ fn variant_layout(
         align = align.max(payload.align);
         greatest = greatest.max(payload.size);
     }
-    let offset = round_up(discriminant, align);
-    let size = within_limit(round_up(offset + greatest, align))?;
+    let offset = round_up(discriminant, align).place;
+    let size = within_limit(round_up(offset + greatest, align).place)?;
     Ok((offset, Layout { size, align }))
 }
 

@@ -3,6 +3,7 @@ use super::layout::{self, FLAT_MAX, LIMIT, Memory, TooLarge, Type};
 use super::row::NO_FLAT_COUNT;
 use super::{number, row};
 use crate::calls::{Info, Leaf};
+use crate::encode;
 
 pub fn leaf(leaf: &Leaf) -> Result<u64, u64> {
     match leaf {
@@ -15,12 +16,7 @@ pub fn leaf(leaf: &Leaf) -> Result<u64, u64> {
             info,
             end,
             k,
-        } => {
-            let field = type_of(info)?.layout_in(Memory::of(*memory));
-            let start = within_limit(layout::round_up(u64::from(*end), field.align))?;
-            let moved = within_limit(start + field.size)?;
-            Ok(if *k == 0 { start } else { moved })
-        }
+        } => next_field(Memory::of(*memory), info, *end, *k),
         Leaf::Flags(count, k) => {
             let flags = layout::flags(u64::from(*count)).ok_or(number::BAD_COUNT)?;
             Ok(info_number(&flags, *k))
@@ -48,12 +44,31 @@ pub fn leaf(leaf: &Leaf) -> Result<u64, u64> {
     }
 }
 
-/// "An alignment other than 1, 2, 4 or 8 gives 8; else a rounded value above 4294967295 gives 6."
+/// "An alignment other than 1, 2, 4 or 8 gives 8; else a rounded value above 4294967295 gives 6." By order 10 it
+/// answers "the rounded value with the bytes it skipped".
 fn align_to(place: u32, align: u32) -> Result<u64, u64> {
-    match align {
-        1 | 2 | 4 | 8 => within_limit(layout::round_up(u64::from(place), u64::from(align))),
-        _ => Err(number::BAD_ROW),
+    if ![1, 2, 4, 8].contains(&align) {
+        return Err(number::BAD_ROW);
     }
+    let rounded = layout::round_up(u64::from(place), u64::from(align));
+    Ok(encode::rounded(
+        within_limit(rounded.place)?,
+        rounded.skipped,
+    ))
+}
+
+/// "Answer the offset and hand the moved end back; 8 for a bad info, before 6." By order 10 each caller of the
+/// rounding passes on what it skipped.
+fn next_field(memory: Memory, info: &Info, end: u32, k: u32) -> Result<u64, u64> {
+    let field = type_of(info)?.layout_in(memory);
+    let rounded = layout::round_up(u64::from(end), field.align);
+    let start = within_limit(rounded.place)?;
+    let moved = within_limit(start + field.size)?;
+    Ok(match k {
+        0 => start,
+        1 => moved,
+        _ => rounded.skipped,
+    })
 }
 
 fn within_limit(place: u64) -> Result<u64, u64> {

@@ -10,6 +10,7 @@ mod definition;
 mod description;
 mod layout;
 mod leaf;
+mod padding;
 mod question;
 mod reads;
 mod row;
@@ -21,7 +22,7 @@ pub use definition::{Definition, definition_named, definitions};
 pub use description::build;
 pub use layout::Core;
 pub use leaf::leaf;
-pub use question::ask;
+pub use question::{ask, member_sizes};
 pub use row::{BY_MEMORY, never_smaller, well_formed};
 pub use table::{Row, capacity, put_row, row, table_of};
 

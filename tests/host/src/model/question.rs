@@ -1,15 +1,15 @@
 //! 01's questions put to a table.
 use super::definition::definition_named;
-use super::layout::{self, Memory, Passes, Type};
+use super::layout::{self, Layout, Memory, Passes, Type};
 use super::leaf::info_number;
 use super::signature::{self, Side};
 use super::table::{self, capacity};
-use super::{Answer, MOST_WORDS, Refused, number, reads, row};
+use super::{Answer, MOST_WORDS, Refused, number, padding, reads, row};
 use crate::calls::{Question, WRITTEN};
 use crate::encode;
 
 /// The boundary's u64 of an answer. A placement's offsets go into the first of the buffers that are
-/// lent to be written; every other word of these is kept.
+/// lent to be written, its gaps into the second; every other word of these is kept.
 pub fn ask(
     question: &Question,
     table: &[u32],
@@ -37,10 +37,7 @@ pub fn ask(
         }
         Question::Placement {
             memory, references, ..
-        } => {
-            let [offsets, _] = written;
-            placement(&table, Memory::of(*memory), references, offsets)
-        }
+        } => placement(&table, Memory::of(*memory), references, written),
         Question::Flatten {
             memory,
             max,
@@ -93,15 +90,17 @@ pub fn ask(
 }
 
 /// "TooLarge names the first member whose start or end passes, 0 if only the size does." What is accepted
-/// reports the rows that its references name, by order 6.
+/// reports the rows that its references name, by order 6, and the gaps, by order 10, with "7 also when the gap
+/// buffer is shorter than the references".
 fn placement(
     table: &Table,
     memory: Memory,
     references: &[u32],
-    offsets: &mut [u32],
+    [offset_words, gap_words]: [&mut [u32]; WRITTEN],
 ) -> Answer<u64> {
-    let early = (offsets.len() < references.len()).then_some(number::NO_ROOM);
-    let lists = table.read(&[references], early)?;
+    let is_short = |words: &[u32]| words.len() < references.len();
+    let no_room = is_short(offset_words) || is_short(gap_words);
+    let lists = table.read(&[references], no_room.then_some(number::NO_ROOM))?;
     let layouts: Vec<_> = lists[0].iter().map(|ty| ty.layout_in(memory)).collect();
     let placed = layout::place(&layouts).map_err(|passes| Refused {
         number: number::TOO_LARGE,
@@ -110,12 +109,33 @@ fn placement(
             Passes::Size => 0,
         },
     })?;
-    for (word, start) in offsets.iter_mut().zip(&placed.starts) {
-        *word = u32::try_from(*start).expect("a start within the limit");
-    }
+    let gaps = padding::gaps(&layouts, &placed);
+    write(offset_words, &placed.starts);
+    write(gap_words, &gaps.before);
+    let Layout { size, align } = placed.layout;
     let reads = reads::of_references(references);
-    let layout = placed.layout;
-    Ok(encode::placement(layout.size, layout.align, reads))
+    Ok(encode::placement(size, align, gaps.after, reads))
+}
+
+/// "Into a lent u32 buffer, later words kept."
+fn write(words: &mut [u32], numbers: &[u64]) {
+    for (word, number) in words.iter_mut().zip(numbers) {
+        *word = u32::try_from(*number).expect("a number within the limit");
+    }
+}
+
+/// The sizes of the members of a placement that was accepted: a definition's is in its row.
+pub fn member_sizes(memory: u32, table: &[u32], references: &[u32]) -> Vec<u64> {
+    let memory = Memory::of(memory);
+    let size_word = [1, 3][memory as usize];
+    let size = |reference: &u32| match definition_named(*reference) {
+        Some(index) => u64::from(table::row(table, index)[size_word]),
+        None => {
+            let scalar = layout::scalar_of(*reference).expect("an accepted reference");
+            scalar.layout_in(memory).size
+        }
+    };
+    references.iter().map(size).collect()
 }
 
 struct Table<'a> {

@@ -2,7 +2,7 @@
 pub use crate::calls::WRITTEN;
 use crate::calls::{Leaf, Question};
 use crate::compare::GUARD;
-use crate::encode::{BUILD_READS, PLACEMENT_READS, ReadsBits};
+use crate::encode::{BUILD_READS, Bits, PLACEMENT_READS};
 use std::fmt;
 use std::ops::Range;
 
@@ -45,7 +45,7 @@ impl Function {
     }
 
     /// Where it reports the rows that it read back, if it does.
-    pub fn reads(self) -> Option<ReadsBits> {
+    pub fn reads(self) -> Option<Bits> {
         match self {
             Function::Build => Some(BUILD_READS),
             Function::Placement => Some(PLACEMENT_READS),
@@ -62,7 +62,7 @@ impl Function {
     /// chooses, and the last one that k can choose.
     pub fn choice(self) -> Option<(usize, u32)> {
         match self {
-            Function::NextField => Some((7, 1)),
+            Function::NextField => Some((7, 2)),
             Function::Flags | Function::Enum => Some((1, 4)),
             Function::FixedLengthList => Some((6, 4)),
             Function::Record => Some((0, 4)),

@@ -20,7 +20,7 @@ macro_rules! run_over {
         ) -> u64 {
             use raw::$calls as port;
             let [(a, a_len), (b, b_len), (c, c_len)] = slices.map(|s| (s.as_ptr(), s.len()));
-            let [(out, out_len), _] = written.map(|s| (s.as_mut_ptr(), s.len()));
+            let [(out, out_len), (gaps, gaps_len)] = written.map(|s| (s.as_mut_ptr(), s.len()));
             // SAFETY: each pointer comes from a slice of the length beside it, lent for the call
             // alone, and the mutable ones are lent to nobody else.
             unsafe {
@@ -30,9 +30,9 @@ macro_rules! run_over {
                     Function::Build => port::build(a, a_len, out, out_len),
                     Function::Type => port::type_of(a, a_len, x[0], x[1], x[2]),
                     Function::SizeAlign => port::size_align(x[0], a, a_len, x[1], x[2]),
-                    Function::Placement => {
-                        port::placement(x[0], a, a_len, x[1], b, b_len, out, out_len)
-                    }
+                    Function::Placement => port::placement(
+                        x[0], a, a_len, x[1], b, b_len, out, out_len, gaps, gaps_len,
+                    ),
                     Function::Flatten => port::flatten(x[0], x[1], a, a_len, x[2], b, b_len),
                     Function::Lowering => port::lowering(x[0], x[1], a, a_len, x[2], b, b_len),
                     Function::Lifting => port::lifting(x[0], x[1], a, a_len, x[2], b, b_len),

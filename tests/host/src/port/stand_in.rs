@@ -36,8 +36,8 @@ fn answer(call: &Call, written: [&mut [u32]; WRITTEN]) -> u64 {
         let [table, _] = written;
         encode::answer(model::build(&first, table))
     } else if function.is_question() {
-        let room = written[0].len();
-        let (question, n) = question(function, numbers, room, second, third);
+        let rooms = written.each_ref().map(|words| words.len());
+        let (question, n) = question(function, numbers, rooms, second, third);
         encode::answer(model::ask(&question, &first, n, written))
     } else {
         encode::leaf(model::leaf(&leaf(function, numbers, first)))
@@ -74,15 +74,11 @@ fn leaf(function: Function, numbers: [u32; NUMBERS], words: Vec<u32>) -> Leaf {
 fn question(
     function: Function,
     numbers: [u32; NUMBERS],
-    room: usize,
+    rooms: [usize; WRITTEN],
     references: Vec<u32>,
     others: Vec<u32>,
 ) -> (Question, u32) {
-    let [a, b, c, d, e, f, ..] = numbers;
-    let side = |memory, asynchronous| Side {
-        memory,
-        asynchronous,
-    };
+    let [a, b, c, ..] = numbers;
     let memory = a;
     match function {
         Function::Type => (Question::Type { reference: b, k: c }, a),
@@ -97,7 +93,7 @@ fn question(
             Question::Placement {
                 memory,
                 references,
-                room,
+                rooms,
             },
             b,
         ),
@@ -109,20 +105,28 @@ fn question(
             },
             c,
         ),
-        Function::Lowering => (
-            Question::Lowering {
-                side: side(a, b),
-                references,
-            },
-            c,
-        ),
-        Function::Lifting => (
-            Question::Lifting {
-                side: side(a, b),
-                references,
-            },
-            c,
-        ),
+        Function::ContainsBorrow => (Question::ContainsBorrow { references }, a),
+        Function::Lowering => {
+            let side = side(a, b);
+            (Question::Lowering { side, references }, c)
+        }
+        Function::Lifting => {
+            let side = side(a, b);
+            (Question::Lifting { side, references }, c)
+        }
+        _ => of_two_sides(function, numbers, references, others),
+    }
+}
+
+/// The same of an async signature.
+fn of_two_sides(
+    function: Function,
+    numbers: [u32; NUMBERS],
+    references: Vec<u32>,
+    others: Vec<u32>,
+) -> (Question, u32) {
+    let [a, b, c, d, e, f, ..] = numbers;
+    match function {
         Function::AsyncStart => (
             Question::AsyncStart {
                 lower: side(a, b),
@@ -133,7 +137,7 @@ fn question(
             },
             d,
         ),
-        Function::AsyncReturn => (
+        _ => (
             Question::AsyncReturn {
                 lift: side(a, b),
                 lower: side(c, d),
@@ -143,6 +147,12 @@ fn question(
             },
             e,
         ),
-        _ => (Question::ContainsBorrow { references }, a),
+    }
+}
+
+fn side(memory: u32, asynchronous: u32) -> Side {
+    Side {
+        memory,
+        asynchronous,
     }
 }

@@ -100,16 +100,21 @@ fn whole_lists(run: &mut Run, subject: &mut Subject, list: &[u32]) {
     questions::lists(run, subject, list, list);
 }
 
-/// Placements in buffers of each length: what is not an offset keeps its bytes to the very end.
+/// Placements in buffers of each length: what is neither an offset nor a gap keeps its bytes to the very end.
 fn buffers(run: &mut Run) {
     let mut built = run.description(&[1, 2, 2, 12, 10, 2, 1 << 18]);
     let subject = &mut built.subject;
     for room in LENGTHS {
         for count in [0, 1, 9, MOST_WORDS - 1, MOST_WORDS, MOST_WORDS + 1, room] {
+            let other = run
+                .random
+                .pick(&[count, LENGTHS[0], LENGTHS[2], LENGTHS[7]]);
             // The last one's end passes 4 GiB after 16,383 of them.
             for member in [2, 12, 64, 65] {
-                for memory in [0, 1] {
-                    questions::placement_in(run, subject, memory, &vec![member; count], room);
+                let references = vec![member; count];
+                for rooms in [[room, room], [room, other], [other, room]] {
+                    questions::placement_in(run, subject, 0, &references, rooms);
+                    questions::placement_in(run, subject, 1, &references, rooms);
                 }
             }
         }

@@ -1,7 +1,7 @@
 //! 01's examples and order 4's, with the papers' own numbers written out, depths by order 5's rule, and whole
 //! tables in order 11's columns. What the three say is compared as anywhere; here the model's answers are held
 //! to the papers too.
-use crate::calls::{Question, Side};
+use crate::calls::{Question, Side, WRITTEN};
 use crate::compare::{Built, Run, Subject};
 use crate::generate::chain;
 use crate::model::{Answer, Refused};
@@ -47,14 +47,14 @@ fn records(run: &mut Run) {
     row_is(run, &built, 0, &SIZE_ALIGN, &[8, 4, 8, 4]);
     row_is(run, &built, 0, &[5], &[2]);
     for memory in [0, 1] {
-        placement_is(run, &mut built, memory, &[U8, U32], &[0, 4], (8, 4));
+        placement_is(run, &mut built, memory, &[U8, U32], &[0, 4], (8, 4, 0));
     }
     let mut built = accepted(run, &[1, 3, U8, STRING, U8], 1);
     row_is(run, &built, 0, &SIZE_ALIGN, &[16, 4, 32, 8]);
     row_is(run, &built, 0, &[5], &[4]);
     let members = [U8, STRING, U8];
-    placement_is(run, &mut built, 0, &members, &[0, 4, 12], (16, 4));
-    placement_is(run, &mut built, 1, &members, &[0, 8, 24], (32, 8));
+    placement_is(run, &mut built, 0, &members, &[0, 4, 12], (16, 4, 3));
+    placement_is(run, &mut built, 1, &members, &[0, 8, 24], (32, 8, 7));
 }
 
 fn variants(run: &mut Run) {
@@ -343,11 +343,11 @@ fn row_is(run: &mut Run, built: &Built, row: usize, words: &[usize], numbers: &[
     });
 }
 
-/// Asks, and holds the model's answer to the paper; what the model writes into a placement's buffer.
+/// Asks, and holds the model's answer to the paper; the offsets that the model writes for a placement.
 fn answer_is(run: &mut Run, subject: &mut Subject, question: &Question, answer: u64) -> Vec<u32> {
     run.ask(subject, question);
-    let mut offsets = vec![0; question.rooms()[0].unwrap_or(0)];
-    let written = [&mut offsets[..], &mut []];
+    let [mut offsets, mut gaps] = question.rooms().map(|room| vec![0; room.unwrap_or(0)]);
+    let written = [&mut offsets[..], &mut gaps];
     let said = encode::answer(model::ask(question, &subject.table, subject.n, written));
     run.tally.consistent(said == answer, || {
         format!("01's example {question:?} is {answer:#x}; the model says {said:#x}")
@@ -355,25 +355,22 @@ fn answer_is(run: &mut Run, subject: &mut Subject, question: &Question, answer: 
     offsets
 }
 
+/// By the paper's offsets, size and alignment, and the gap after the last; the other gaps are in `padding`.
 fn placement_is(
     run: &mut Run,
     built: &mut Built,
     memory: u32,
     references: &[u32],
     offsets: &[u32],
-    (size, align): (u64, u64),
+    (size, align, after): (u64, u64, u64),
 ) {
     let question = Question::Placement {
         memory,
         references: references.to_vec(),
-        room: references.len(),
+        rooms: [references.len(); WRITTEN],
     };
-    let said = answer_is(
-        run,
-        &mut built.subject,
-        &question,
-        encode::placement(size, align, 0),
-    );
+    let answer = encode::placement(size, align, after, 0);
+    let said = answer_is(run, &mut built.subject, &question, answer);
     run.tally.consistent(said == offsets, || {
         format!("01's example {question:?} has offsets {offsets:?}; the model says {said:?}")
     });

@@ -171,7 +171,7 @@ fn next_fields(run: &mut Run) {
                         0 => [size, align, 24, 8, 3],
                         _ => [24, 8, size, align, 3],
                     };
-                    for k in 0..3 {
+                    for k in 0..4 {
                         let end = *end;
                         run.leaf(&Leaf::NextField {
                             memory,
@@ -193,7 +193,7 @@ fn every_leaf_of(run: &mut Run, info: Info) {
         true => run.random.below(64) as u32,
         false => run.random.word(),
     };
-    for k in 0..3 {
+    for k in [0, 1, 2, 3, u32::MAX] {
         run.leaf(&Leaf::NextField {
             memory,
             info,

@@ -166,8 +166,10 @@ fn many_rooms(run: &mut Run, subject: &mut Subject, references: &[u32]) {
         length + 1,
         length + 100,
     ] {
-        for memory in [0, 1] {
-            questions::placement_in(run, subject, memory, references, room);
+        for rooms in [[room, room], [room, length], [length, room]] {
+            for memory in [0, 1] {
+                questions::placement_in(run, subject, memory, references, rooms);
+            }
         }
     }
     for k in [0, 1] {

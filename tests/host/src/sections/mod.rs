@@ -6,6 +6,7 @@ mod depth;
 mod examples;
 mod leaves;
 mod limits;
+mod padding;
 mod questions;
 mod random;
 mod reads;
@@ -15,7 +16,7 @@ mod tables;
 mod ways;
 
 /// A section's name and what it runs.
-pub const SECTIONS: [(&str, fn(&mut Run)); 15] = [
+pub const SECTIONS: [(&str, fn(&mut Run)); 16] = [
     ("01's examples", examples::run),
     ("leaves over numbers", leaves::numbers),
     ("leaves over infos", leaves::infos),
@@ -31,4 +32,5 @@ pub const SECTIONS: [(&str, fn(&mut Run)); 15] = [
     ("longer than byte calls look at", beyond::run),
     ("short and long over bytes", ways::run),
     ("rows read back", reads::run),
+    ("padding", padding::run),
 ];

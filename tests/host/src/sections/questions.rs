@@ -1,5 +1,5 @@
 //! Questions put to a table: every kind, both memories, both async settings.
-use crate::calls::{Question, Side};
+use crate::calls::{Question, Side, WRITTEN};
 use crate::compare::{Run, Subject};
 use crate::generate;
 
@@ -112,30 +112,35 @@ fn signatures(run: &mut Run, subject: &mut Subject, side: Side, first: &[u32], s
     }
 }
 
-/// One placement, in a buffer of so many words.
+/// One placement, in buffers of so many words for the offsets and for the gaps.
 pub fn placement_in(
     run: &mut Run,
     subject: &mut Subject,
     memory: u32,
     references: &[u32],
-    room: usize,
+    rooms: [usize; WRITTEN],
 ) {
     let references = references.to_vec();
     let question = Question::Placement {
         memory,
         references,
-        room,
+        rooms,
     };
     run.ask(subject, &question);
 }
 
-/// A buffer as long as the references, and one a little shorter or longer.
+/// Buffers as long as the references, and others, of which each is so long or a little shorter or longer.
 fn placement(run: &mut Run, subject: &mut Subject, memory: u32, references: &[u32]) {
     let length = references.len();
-    let other = run
-        .random
-        .pick(&[length.saturating_sub(1), length + 1, length + 3, length / 2]);
-    for room in [length, other] {
-        placement_in(run, subject, memory, references, room);
+    let around = [
+        length,
+        length.saturating_sub(1),
+        length + 1,
+        length + 3,
+        length / 2,
+    ];
+    let others = [run.random.pick(&around), run.random.pick(&around)];
+    for rooms in [[length; WRITTEN], others] {
+        placement_in(run, subject, memory, references, rooms);
     }
 }

@@ -1,6 +1,6 @@
 //! Order 6: what builds and placements report as read back. The model is held to numbers that come from the
 //! order; each call is made over bytes too.
-use crate::calls::Question;
+use crate::calls::{Question, WRITTEN};
 use crate::compare::{Run, Subject};
 use crate::encode::{self, PLACEMENT_READS};
 use crate::generate::chain;
@@ -184,7 +184,7 @@ fn few_references(run: &mut Run) {
 }
 
 /// Around each number of references where the port may change its way.
-const LENGTHS: [usize; 12] = [
+const LENGTHS: [usize; 14] = [
     1,
     2,
     15,
@@ -192,6 +192,8 @@ const LENGTHS: [usize; 12] = [
     17,
     64,
     65,
+    256,
+    257,
     1_024,
     1_025,
     2_049,
@@ -291,10 +293,10 @@ fn placed_in(
         let question = Question::Placement {
             memory,
             references: references.to_vec(),
-            room,
+            rooms: [room; WRITTEN],
         };
         run.ask(subject, &question);
-        let written = [&mut vec![0; room][..], &mut []];
+        let written = [&mut vec![0; room][..], &mut vec![0; room]];
         let said = model::ask(&question, &subject.table, subject.n, written);
         let said = said.map(|answer| PLACEMENT_READS.of(answer));
         run.tally.consistent(said == due, || {

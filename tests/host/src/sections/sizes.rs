@@ -1,6 +1,7 @@
 //! Sizes around 4 GiB: first a type that leaves a few bytes to the limit, then every way to build on
 //! it and to place it.
 use super::questions;
+use crate::calls::WRITTEN;
 use crate::compare::Run;
 use crate::random::Random;
 
@@ -73,7 +74,8 @@ fn random_sums(run: &mut Run) {
         });
         let mut built = run.description(&words);
         for memory in [0, 1] {
-            questions::placement_in(run, &mut built.subject, memory, &members, members.len());
+            let rooms = [members.len(); WRITTEN];
+            questions::placement_in(run, &mut built.subject, memory, &members, rooms);
         }
     }
 }
@@ -163,7 +165,8 @@ fn placements(run: &mut Run, base: &[u32]) {
     }
     for references in lists {
         for memory in [0, 1] {
-            questions::placement_in(run, subject, memory, &references, references.len());
+            let rooms = [references.len(); WRITTEN];
+            questions::placement_in(run, subject, memory, &references, rooms);
         }
     }
     // Signatures do not look at sizes.

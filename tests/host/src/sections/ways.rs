@@ -46,15 +46,19 @@ fn lists_in(run: &mut Run, subject: &mut Subject) {
             let second = generate::references(&mut run.random, ROWS, other, bad_once_in);
             questions::lists(run, subject, &first, &second);
             questions::lists(run, subject, &second, &first);
-            for room in [
-                first.len() - 1,
-                first.len(),
-                first.len() + 1,
-                3 * first.len(),
-            ] {
-                questions::placement_in(run, subject, 0, &first, room);
-                questions::placement_in(run, subject, 1, &first, room);
-            }
+            rooms_around(run, subject, &first);
+        }
+    }
+}
+
+/// Placements with too little room, room enough and more, for the offsets and for the gaps.
+fn rooms_around(run: &mut Run, subject: &mut Subject, references: &[u32]) {
+    let length = references.len();
+    let around = [length - 1, length, length + 1, 3 * length];
+    for offsets in around {
+        for gaps in around {
+            questions::placement_in(run, subject, 0, references, [offsets, gaps]);
+            questions::placement_in(run, subject, 1, references, [offsets, gaps]);
         }
     }
 }

@@ -1,12 +1,15 @@
 -- The decoded fronts are the first words of the bytes; the rest changes no answer and stays.
-use mathlib.Core.Path.{sym, ap, ap₂, _∙_}
+use mathlib.Core.Path.{sym, ap, _∙_}
+use mathlib.Core.List.{List}
+use Prim.Native.Nat.{ℕ}
 use denote.Ref.{now}
-use lib.ListN.{length, length-take}
+use lib.ListN.{length}
 use lib.Seq.{length-take-le}
-use Rattle.canon.proofs.Capped.{placement-first, placement-reads-first}
-use Rattle.words.specs.Words.{wholeWords}
-use Rattle.host.specs.Numbers.{memoryAt, placementNumber}
-use Rattle.host.proofs.Decoded.{front, offsets-put}
+use Rattle.canon.specs.Gaps.{roomOf, offsetsOf, gapsOf}
+use Rattle.canon.proofs.Gaps.{offsets-padded, offsets-counted, gaps-counted}
+use Rattle.words.specs.Words.{wholeWords, putWords}
+use Rattle.host.specs.Numbers.{memoryAt}
+use Rattle.host.proofs.Decoded.{front, room-first, call-first, lent-put}
 use borrow.Author.Needs.{needs}
 use Rattle.host.proofs.table_bytes.place_whole.Statement.{statement}
 use Rattle.host.proofs.table_bytes.place_whole.Tie as tie
@@ -29,12 +32,18 @@ slice-aggregate-words-of-3 c = search needs
 words-of-requires-3 : tie.Need-words-of-requires-3
 words-of-requires-3 c κs = search needs
 
+slice-aggregate-words-of-4 : tie.Need-slice-aggregate-words-of-4
+slice-aggregate-words-of-4 c = search needs
+
+words-of-requires-4 : tie.Need-words-of-requires-4
+words-of-requires-4 c κs = search needs
+
 array-share-prefix-ts : tie.Need-array-share-prefix-ts
 array-share-prefix-ts c = search needs
 
 slice-aggregate-place-into : tie.Need-slice-aggregate-place-into
 slice-aggregate-place-into c =
-    let w = c .before .before .before .before .before .before .before .before .before .words-of in
+    let w = c .before .before .before .before .before .before .before .before .before .before .before .before .before .words-of in
     sym (length-take-le (w .result) (w .last .1 .0) (search needs))
 
 array-share-prefix-rs : tie.Need-array-share-prefix-rs
@@ -42,7 +51,7 @@ array-share-prefix-rs c = search needs
 
 slice-aggregate-place-into-2 : tie.Need-slice-aggregate-place-into-2
 slice-aggregate-place-into-2 c =
-    let w = c .before .before .before .before .before .before .before .words-of2 in
+    let w = c .before .before .before .before .before .before .before .before .before .before .before .words-of2 in
     sym (length-take-le (w .result) (w .last .1 .0) (search needs))
 
 array-borrow-prefix-os : tie.Need-array-borrow-prefix-os
@@ -50,7 +59,15 @@ array-borrow-prefix-os c = search needs
 
 slice-aggregate-place-into-3 : tie.Need-slice-aggregate-place-into-3
 slice-aggregate-place-into-3 c =
-    let w = c .before .before .before .before .words-of3 in
+    let w = c .before .before .before .before .before .before .before .before .words-of3 in
+    sym (length-take-le (w .result) (w .last .1 .0) (search needs))
+
+array-borrow-prefix-gs : tie.Need-array-borrow-prefix-gs
+array-borrow-prefix-gs c = search needs
+
+slice-aggregate-place-into-4 : tie.Need-slice-aggregate-place-into-4
+slice-aggregate-place-into-4 c =
+    let w = c .before .before .before .before .before .words-of4 in
     sym (length-take-le (w .result) (w .last .1 .0) (search needs))
 
 place-into-requires : tie.Need-place-into-requires
@@ -59,20 +76,41 @@ place-into-requires c κs = search needs
 same-length : tie.Need-same-length
 same-length c = search needs
 
+same-length-2 : tie.Need-same-length-2
+same-length-2 c = search needs
+
 returns : tie.Need-returns
 returns c =
-    let a = c .before .before .before .before .before .before .before .before .before .before .before .before .before .before .before .before .before .before .before .before .before .args in
-    let table = c .before .before .before .before .before .before .before .before .before .before .before .before .before .before .before .before .words-of in
-    let list = c .before .before .before .before .before .before .before .before .before .before .before .before .before .words-of2 in
-    let buffer = c .before .before .before .before .before .before .before .before .before .words-of3 in
-    let into = c .before .before .before .place-into in
+    let into = c .before .before .before .before .before .before .place-into in
+    let s = c .before .before .before .before .before .before .before .before .before .before .before .before .before .before in
+    let buffer = s .before .before .before .before .words-of3 in
+    let list = s .before .before .before .before .before .before .before .before .words-of2 in
+    let table = s .before .before .before .before .before .before .before .before .before .before .before .words-of in
+    let lent = s .before .before .before .before .before .before .before .before .before .before .before .before .before in
+    let a = lent .before .before .before .before .args in
+    let m = memoryAt (a .memory) in
     let t = wholeWords (now (a .table)) in
     let ws = wholeWords (now (a .references)) in
+    let os = wholeWords (now (a .offsets)) in
+    let gs = wholeWords (now (a .gaps)) in
     let rows = front _ _ 16384 (search needs) (table .ensures .0) (table .ensures .1) in
     let few = front _ _ 16385 (search needs) (list .ensures .0) (list .ensures .1) in
-    let out = front _ _ 16384 (search needs) (buffer .ensures .0) (buffer .ensures .1) in (
-      into .ensures .0 ∙ rw (rows, few, out, length-take 16384 (wholeWords (now (a .offsets)))) (ap₂ placementNumber (placement-first (memoryAt (a .memory)) t (a .rows) ws (length (wholeWords (now (a .offsets))))) (placement-reads-first (memoryAt (a .memory)) t (a .rows) ws (length (wholeWords (now (a .offsets)))))),
-      into .ensures .1 .1 ∙ offsets-put _ (now (a .offsets)) (λ i. c .before .before .before .before .before .before .before .before .before .before .before .before .before .before .before .before .before .before .slice-known .given i .fits) (into .ensures .1 .0 .1 ∙ ap length out) (memoryAt (a .memory)) t (a .rows) ws (into .ensures .1 .0 .0 ∙ rw (rows, few, out)),
+    let out = front _ _ 16384 (search needs) (buffer .ensures .0) (buffer .ensures .1) in
+    let gaps = front _ _ 16384 (search needs) (s .words-of4 .ensures .0) (s .words-of4 .ensures .1) in
+    let room = room-first 16384 os gs in
+    let shared = roomOf os gs in
+    let offsets = offsets-padded m t (a .rows) ws shared os in
+    let done = into .ensures .1 in (
+      into .ensures .0 ∙ rw (rows, few, out, gaps, room) (call-first m t (a .rows) ws shared),
+      (
+        done .1 .1 .0
+            ∙ lent-put _ (now (a .offsets)) (λ i. lent .before .slice-known .given i .fits) (done .0 .1 ∙ ap length out) offsetsOf m t (a .rows) ws shared
+            (offsets-counted m t (a .rows) ws shared) (done .0 .0 ∙ rw (rows, few, out, gaps, room) (offsets-padded _ _ _ _ _ _))
+            ∙ ap (λ (u : List ℕ). putWords 0 u (now (a .offsets))) (sym offsets),
+        done .1 .1 .1
+            ∙ lent-put _ (now (a .gaps)) (λ i. lent .slice-known2 .given i .fits) (done .1 .0 .1 ∙ ap length gaps) gapsOf m t (a .rows) ws shared
+            (gaps-counted m t (a .rows) ws shared) (done .1 .0 .0 ∙ rw (rows, few, out, gaps, room)),
+      ),
     )
 
 pub place-whole-spec : {M : Type 1} → statement M
@@ -85,12 +123,17 @@ place-whole-spec =
     words-of-requires-2
     slice-aggregate-words-of-3
     words-of-requires-3
+    slice-aggregate-words-of-4
+    words-of-requires-4
     array-share-prefix-ts
     slice-aggregate-place-into
     array-share-prefix-rs
     slice-aggregate-place-into-2
     array-borrow-prefix-os
     slice-aggregate-place-into-3
+    array-borrow-prefix-gs
+    slice-aggregate-place-into-4
     place-into-requires
     same-length
+    same-length-2
     returns)

@@ -1,7 +1,5 @@
-use mathlib.Core.Path.{ap₂, _∙_}
 use Rattle.canon.proofs.Costs.{placement-few}
-use Rattle.host.specs.Numbers.{placementNumber}
-use Rattle.host.proofs.Short.{placement-short}
+use Rattle.host.proofs.Short.{placement-short, after-short}
 use borrow.Author.Needs.{needs}
 use Rattle.host.proofs.tables.lampughjata_placement.Statement.{statement}
 use Rattle.host.proofs.tables.lampughjata_placement.Tie as tie
@@ -14,18 +12,21 @@ placement-requires c κs = search needs
 
 placement-number-requires : tie.Need-placement-number-requires
 placement-number-requires c κs =
-    let placed = c .before .before .placement .ensures in
-    (rw (placed .0) (placement-short _ _ _ _ _), rw (placed .1 .1) (placement-few _ _ _ _ _))
+    let placed = c .before .before .before .before .placement .ensures in
+    (rw (placed .0) (placement-short _ _ _ _ _), rw (placed .1 .1 .0) (placement-few _ _ _ _ _), rw (placed .1 .1 .1 .1) (after-short _ _ _ _ _))
 
 same-length : tie.Need-same-length
 same-length c = search needs
 
+same-length-2 : tie.Need-same-length-2
+same-length-2 c = search needs
+
 returns : tie.Need-returns
 returns c =
-    let placed = rw (c .before .before .before .before .before .memory-at .ensures) at (c .before .before .before .placement .ensures) in
-    (c .placement-number .ensures ∙ ap₂ placementNumber (placed .0) (placed .1 .1), placed .1 .0)
+    let placed = rw (c .before .before .before .before .before .before .before .before .memory-at .ensures) at (c .before .before .before .before .before .placement .ensures) in
+    (rw (← placed .0, ← placed .1 .1 .0, ← placed .1 .1 .1 .1) (c .placement-number .ensures), (placed .1 .0, placed .1 .1 .1 .0))
 
 pub lampughjata-placement-spec : {M : Type 1} → statement M
 lampughjata-placement-spec =
     tie.close
-    (tie.spec memory-at-requires placement-requires placement-number-requires same-length returns)
+    (tie.spec memory-at-requires placement-requires placement-number-requires same-length same-length-2 returns)

@@ -1,7 +1,7 @@
 -- The test of the table, then what is read in one memory (`size-align-is`).
 use mathlib.Core.Path.{sym, _∙_}
 use borrow.Author.Tests.{lt-leb}
-use Rattle.canon.specs.Answer.{andThen, atPosition, unless}
+use Rattle.canon.specs.Answer.{atPosition, unless}
 use Rattle.canon.specs.Question.{read}
 use Rattle.questions.proofs.Memos.{size-align-is}
 use borrow.Author.Needs.{needs}
@@ -34,27 +34,12 @@ unfolding read unless atPosition
 returns-3 c =
     simp (size-align-is, ← c .before .before .before .before .before .before .no-table .ensures, c .before .before .before .before .before .if1 .left, lt-leb _ _ (c .before .before .before .before .if2 .taken), ← c .before .before .before .plain-member .ensures .0, c .before .why .given .1)
 
-row-named-requires : tie.Need-row-named-requires
-row-named-requires c κs = (sym (c .before .before .no-table .ensures) ∙ c .before .if1 .left, c .if2 .left)
-
-enum-known-index : tie.Need-enum-known-index
-enum-known-index c = search needs
-
-row-layout-requires : tie.Need-row-layout-requires
-row-layout-requires c κs = search needs
-
-enum-known-why-2 : tie.Need-enum-known-why-2
-enum-known-why-2 c = search needs
+size-align-of-row-requires : tie.Need-size-align-of-row-requires
+size-align-of-row-requires c κs = (sym (c .before .before .no-table .ensures) ∙ c .before .if1 .left, c .if2 .left)
 
 returns-4 : tie.Need-returns-4
-unfolding unless atPosition andThen
-returns-4 c =
-    simp (size-align-is, ← c .before .before .before .before .before .before .before .no-table .ensures, c .before .before .before .before .before .before .if1 .left, ← c .before .before .before .before .row-named .ensures, c .before .before .index .given .1, c .row-layout .ensures)
-
-returns-5 : tie.Need-returns-5
-unfolding unless atPosition andThen
-returns-5 c =
-    simp (size-align-is, ← c .before .before .before .before .before .before .no-table .ensures, c .before .before .before .before .before .if1 .left, ← c .before .before .before .row-named .ensures, c .before .why2 .given .1)
+unfolding unless
+returns-4 c = simp (size-align-is, ← c .before .before .before .no-table .ensures, c .before .before .if1 .left, ← c .size-align-of-row .ensures)
 
 pub size-align-spec : {M : Type 1} → statement M
 size-align-spec =
@@ -67,9 +52,5 @@ size-align-spec =
     enum-known-why
     returns-2
     returns-3
-    row-named-requires
-    enum-known-index
-    row-layout-requires
-    enum-known-why-2
-    returns-4
-    returns-5)
+    size-align-of-row-requires
+    returns-4)

@@ -13,11 +13,13 @@ use Rattle.canon.specs.Layout.{Layout, starts}
 use Rattle.canon.specs.Row.{Info, infoLayout}
 use Rattle.canon.specs.Question.{read, layoutsIn}
 use Rattle.canon.specs.Cost.{rowsAmong, reported}
+use Rattle.canon.specs.Gaps.{gaps}
 use Rattle.canon.proofs.Costs.{rowsAmong-most, rows-next}
 use Rattle.canon.proofs.Questions.{read-aligned}
 use Rattle.canon.proofs.Tests.{impossible}
 use Rattle.types.specs.Means.{memoryOf, numberOf, layoutMeans}
-use Rattle.questions.specs.Means.{memberMeans}
+use Rattle.questions.specs.Means.{memberMeans, halves}
+use Rattle.questions.specs.declared.pair.Half.the-variants.{Low, High}
 use Rattle.questions.specs.Steps.{nextPlace}
 use Rattle.questions.proofs.References.{part-is, Read, begins, goes-on, stops, ends}
 use Rattle.questions.proofs.Members.{layouts-more, Stands, Staged, nothing-stands, stands-more, staged-more, finish-is, placed-starts}
@@ -31,17 +33,17 @@ Inv-loop memory table n references stage₀ placed₀ reads₀ k₀ stage placed
     × ((done : List Info)
     × Read (read table n) references k done
     × Stands placed (layoutsIn (memoryOf memory) done) k
-    × Staged (take k stage) (layoutsIn (memoryOf memory) done))
+    × Staged (halves Low (take k stage)) (halves High (take k stage)) (layoutsIn (memoryOf memory) done))
     × (reads ≡ rowsAmong (take k references))
 
 abbrev μ-loop : tie.MeasureT-loop
 μ-loop memory table n references stage₀ placed₀ reads₀ k₀ stage placed reads k = length references - k
 
 loop-holds : tie.Need-loop-holds Inv-loop μ-loop
-unfolding starts rowsAmong
+unfolding starts gaps rowsAmong
 loop-holds c =
     let a = c .before .before .before .args in
-    (search needs, refl, ([], begins (read (now (a .table)) (a .n)) (now (a .references)), nothing-stands, λ h. refl), refl)
+    (search needs, refl, ([], begins (read (now (a .table)) (a .n)) (now (a .references)), nothing-stands, λ h. (refl, refl)), refl)
 
 mul-read-member : tie.Need-mul-read-member Inv-loop μ-loop
 mul-read-member c = search needs
@@ -66,21 +68,26 @@ cast-t19 c = search needs
 next-requires : tie.Need-next-requires Inv-loop μ-loop
 next-requires c κs = search needs
 
+pair-requires : tie.Need-pair-requires Inv-loop μ-loop
+pair-requires c κs = search needs
+
 mul-stage : tie.Need-mul-stage Inv-loop μ-loop
 mul-stage c =
-    let p = c .before .before .before .before .before .before .before .before .before .before .before .pre in
-    omega (arith, c .before .before .before .before .before .before .loop-test .taken, c .before .before .before .before .before .before .before .loop .inv .1, p .1, p .2)
+    let s = c .before .before .before .before .before .before .before .before in
+    let p = s .before .before .before .before .pre in
+    omega (arith, c .before .before .before .before .before .before .before .loop-test .taken, s .loop .inv .1, p .1, p .2)
 
 slice-write-stage : tie.Need-slice-write-stage Inv-loop μ-loop
 slice-write-stage c =
-    let p = c .before .before .before .before .before .before .before .before .before .before .before .pre in
-    omega (arith, c .before .before .before .before .before .before .loop-test .taken, c .before .before .before .before .before .before .before .loop .inv .1, p .1, p .2)
+    let s = c .before .before .before .before .before .before .before .before in
+    let p = s .before .before .before .before .pre in
+    omega (arith, c .before .before .before .before .before .before .before .loop-test .taken, s .loop .inv .1, p .1, p .2)
 
 enum-known-why : tie.Need-enum-known-why Inv-loop μ-loop
 enum-known-why c = search needs
 
-cast-t23 : tie.Need-cast-t23 Inv-loop μ-loop
-cast-t23 c = search needs
+cast-t24 : tie.Need-cast-t24 Inv-loop μ-loop
+cast-t24 c = search needs
 
 same-length : tie.Need-same-length Inv-loop μ-loop
 same-length c = search needs
@@ -94,40 +101,45 @@ returns c = let a = c .before .before .before .before .before .before .before .b
     let e =
     stops look (now (a .references)) (infoLayout (memoryOf (a .memory))) (l .k) (l .inv .2 .0) (numberOf (w .0 .0)) (l .inv .2 .1)
     (sym (ap memberMeans (w .1)) ∙ c .before .before .before .read-member .ensures .0) (c .before .before .before .before .before .loop-test .taken) in
-    (record { answer = rw e; reads = rw e }, λ p f. impossible (let g = rw e at f in cc))
+    (record { answer = rw e; reads = rw e; after = rw e }, λ q f. impossible (let g = rw e at f in cc))
 
 add-k : tie.Need-add-k Inv-loop μ-loop
 add-k c =
-    let p = c .before .before .before .before .before .before .before .before .before .before .before .pre in
-    omega (arith, c .before .before .before .before .before .before .loop-test .taken, c .before .before .before .before .before .before .before .loop .inv .1, p .1, p .2)
+    let s = c .before .before .before .before .before .before .before .before in
+    let p = s .before .before .before .before .pre in
+    omega (arith, c .before .before .before .before .before .before .before .loop-test .taken, s .loop .inv .1, p .1, p .2)
 
 loop-less : tie.Need-loop-less Inv-loop μ-loop
 loop-less c = search needs
 
 loop-again : tie.Need-loop-again Inv-loop μ-loop
-loop-again c = let a = c .before .before .before .before .before .before .before .before .before .before .before .args in
-    let p = c .before .before .before .before .before .before .before .before .before .before .before .pre in
-    let l = c .before .before .before .before .before .before .before .loop in
-    let test = c .before .before .before .before .before .before .loop-test .taken in
+loop-again c =
+    let s = c .before .before .before .before .before .before .before .before in
+    let a = s .before .before .before .before .args in
+    let p = s .before .before .before .before .pre in
+    let l = s .loop in
+    let test = c .before .before .before .before .before .before .before .loop-test .taken in
     let m = memoryOf (a .memory) in
     let look = read (now (a .table)) (a .n) in
     let w = getD (now (a .references)) (l .k) 0 in
     let done = l .inv .2 .0 in
-    let g = c .before .before .layout .given in
+    let g = c .before .before .before .layout .given in
     let f = layoutMeans (g .0 .0) in
-    let r = part-is (infoLayout m) (look w) f (sym (ap memberMeans (g .1)) ∙ c .before .before .before .before .read-member .ensures .0) in
-    let q = c .next .ensures ∙ ap (λ (x : Layout). nextPlace (l .placed) x (record { 0 = l .k })) (sym (r .2)) in
+    let reading = c .before .before .before .before .before .read-member .ensures in
+    let r = part-is (infoLayout m) (look w) f (sym (ap memberMeans (g .1)) ∙ reading .0) in
+    let next = c .before .next in
+    let q = next .ensures ∙ ap (λ (x : Layout). nextPlace (l .placed) x (record { 0 = l .k })) (sym (r .2)) in
     let al = read-aligned m (now (a .table)) (a .n) w (r .0) (r .1) in (
       search needs,
       simp length-set (l .inv .1),
       (
         done ++ r .0 ∷ [],
         goes-on look (now (a .references)) (l .k) done (r .0) (l .inv .2 .1) (r .1) test,
-        rw (layouts-more m done (r .0)) (stands-more (l .placed) (layoutsIn m done) (l .k) (l .inv .2 .2) (infoLayout m (r .0)) al (c .next .result) q),
-        rw (layouts-more m done (r .0))
-            (staged-more (l .placed) (layoutsIn m done) (l .k) (l .inv .2 .2) (infoLayout m (r .0)) al (c .next .result) q (l .stage) (l .inv .2 .3) (omega (arith, test, l .inv .1, p .2))),
+        rw (layouts-more m done (r .0)) (stands-more (l .placed) (layoutsIn m done) (l .k) (l .inv .2 .2) (infoLayout m (r .0)) al (next .result) q),
+        rw (layouts-more m done (r .0), c .pair .ensures)
+            (staged-more (l .placed) (layoutsIn m done) (l .k) (l .inv .2 .2) (infoLayout m (r .0)) al (next .result) q (l .stage) (l .inv .2 .3) (omega (arith, test, l .inv .1, p .2))),
       ),
-      omega (arith, l .inv .3, rw (g .1) at (c .before .before .before .before .read-member .ensures .1), rows-next (now (a .references)) (l .k) test),
+      omega (arith, l .inv .3, rw (g .1) at (reading .1), rows-next (now (a .references)) (l .k) test),
     )
 
 finish-requires : tie.Need-finish-requires Inv-loop μ-loop
@@ -145,9 +157,15 @@ returns-2 c = let a = c .before .before .before .before .before .before .args in
     let e = ends (read (now (a .table)) (a .n)) (now (a .references)) (l .k) done (l .inv .2 .1) (c .before .loop-test .left) in
     let f = finish-is (l .placed) fs (l .k) (l .inv .2 .2) in
     let all = l .inv .3 ∙ ap rowsAmong (take-all (l .k) (now (a .references)) (c .before .loop-test .left)) in (
-      record { answer = rw e (c .finish .ensures .0 ∙ f); reads = rw e (c .finish .ensures .1 ∙ ap₂ (λ (x : Answer Layout) (n : ℕ). reported x n) f all) },
-      λ p f. let q = placed-starts (l .placed) fs (l .k) (l .inv .2 .2) p (rw e at f) in
-          rw (← le-antisymm (l .inv .0) (c .before .loop-test .left)) (q .0 ∙ sym (l .inv .2 .3 (q .1))),
+      record {
+        answer = rw e (c .finish .ensures .0 ∙ f .0);
+        reads = rw e (c .finish .ensures .1 ∙ ap₂ (λ (x : Answer Layout) (n : ℕ). reported x n) (f .0) all);
+        after = rw e (c .finish .ensures .2 ∙ f .1);
+      },
+      λ q g.
+          let b = placed-starts (l .placed) fs (l .k) (l .inv .2 .2) q (rw e at g) in
+          let staged = l .inv .2 .3 (b .2) in
+          rw (← le-antisymm (l .inv .0) (c .before .loop-test .left)) (record { offsets = b .0 ∙ sym (staged .0); gaps = b .1 ∙ sym (staged .1) }),
     )
 
 pub fill-spec : {M : Type 1} → statement M
@@ -163,10 +181,11 @@ fill-spec =
     enum-known-layout
     cast-t19
     next-requires
+    pair-requires
     mul-stage
     slice-write-stage
     enum-known-why
-    cast-t23
+    cast-t24
     same-length
     returns
     add-k

@@ -95,7 +95,7 @@ returns c = let a = c .before .before .before .before .before .before .before .b
     let e =
     stops look (now (a .references)) (infoLayout (memoryOf (a .memory))) (l .k) (l .inv .2 .0) (numberOf (w .0 .0)) (l .inv .2 .1)
     (sym (ap memberMeans (w .1)) ∙ c .before .before .before .before .before .recall .ensures .0) (c .before .before .before .before .before .before .before .before .loop-test .taken) in
-    (record { answer = rw e; reads = rw e }, λ p f. impossible (let g = rw e at f in cc))
+    (record { answer = rw e; reads = rw e; after = rw e }, λ q f. impossible (let g = rw e at f in cc))
 
 add-k : tie.Need-add-k Inv-loop μ-loop
 add-k c =
@@ -149,11 +149,20 @@ returns-2 c = let a = c .before .before .before .before .before .before .args in
     let e = ends (read (now (a .table)) (a .n)) (now (a .references)) (l .k) done (l .inv .2 .1) (c .before .loop-test .left) in
     let f = finish-is (l .placed) fs (l .k) st in
     let all = l .inv .5 ∙ ap rowsAmong (take-all (l .k) (now (a .references)) (c .before .loop-test .left)) in (
-      record { answer = rw e (c .finish .ensures .0 ∙ f); reads = rw e (c .finish .ensures .1 ∙ ap₂ (λ (x : Answer Layout) (n : ℕ). reported x n) f all) },
-      λ p f. let q = placed-starts (l .placed) fs (l .k) st p (rw e at f) in
+      record {
+        answer = rw e (c .finish .ensures .0 ∙ f .0);
+        reads = rw e (c .finish .ensures .1 ∙ ap₂ (λ (x : Answer Layout) (n : ℕ). reported x n) (f .0) all);
+        after = rw e (c .finish .ensures .2 ∙ f .1);
+      },
+      λ q g.
+          let b = placed-starts (l .placed) fs (l .k) st q (rw e at g) in
           let there = rw k at (l .inv .4) in
           let same = known-all m (now (a .table)) (a .n) (l .memo) (l .inv .3) 0 (now (a .references)) done e there in
-          record { there = there; aligned = rw same (st .aligned); fits = rw same (q .1); offsets-are = rw same (q .0) },
+          record {
+            all = record { there = there; aligned = rw same (st .aligned); fits = rw same (b .2) };
+            offsets = rw same (b .0);
+            gaps = rw same (b .1);
+          },
     )
 
 pub judge-spec : {M : Type 1} → statement M

@@ -3,7 +3,10 @@ use mathlib.Core.Path.{refl, _∙_}
 use denote.Ref.{now}
 use lib.ListN.{length, length-map}
 use Rattle.canon.specs.Layout.{starts}
+use Rattle.canon.specs.Gaps as canonGaps
+use Rattle.canon.specs.Gaps.{offsetsOf, gapsOf}
 use Rattle.canon.proofs.Questions.{starts-length}
+use Rattle.canon.proofs.Gaps.{gaps-length}
 use Rattle.types.specs.Means.{memoryOf}
 use Rattle.questions.specs.Steps.{memberLayout, known}
 use Rattle.questions.proofs.Members.{answered, untouched, written}
@@ -17,9 +20,8 @@ slice-aggregate-judge c = search needs
 
 judge-requires : tie.Need-judge-requires
 judge-requires c κs =
-    let a = c .before .before .before .before .args in
-    let p = c .before .before .before .before .pre in
-    (p .0, p .1, refl, remembers-none (memberLayout (memoryOf (a .memory)) (now (a .table)) (a .n)) 1088)
+    let s = c .before .before .before .before .before in
+    (s .pre .0, s .pre .1, refl, remembers-none (memberLayout (memoryOf (s .args .memory)) (now (s .args .table)) (s .args .n)) 1088)
 
 enum-known-whole : tie.Need-enum-known-whole
 enum-known-whole c = search needs
@@ -28,10 +30,11 @@ slice-aggregate-write : tie.Need-slice-aggregate-write
 slice-aggregate-write c = search needs
 
 write-requires : tie.Need-write-requires
-write-requires c κs = let f = c .before .before .before .before .before .before .judge in
-    let p = answered _ _ (rw (c .before .before .before .whole .given .1) at (f .ensures .0) .answer) in
+write-requires c κs =
+    let f = c .before .before .before .before .before .before .before .judge in
+    let p = answered _ _ (rw (c .before .before .before .before .whole .given .1) at (f .ensures .0) .answer) in
     let r = f .ensures .1 (p .0) (p .1) in
-    (c .before .before .before .before .before .before .before .before .before .before .before .pre .1, search needs, search needs, record { there = r .there; aligned = r .aligned; fits = r .fits; offsets-are = refl })
+    (c .before .before .before .before .before .before .before .before .before .before .before .before .before .pre .1, search needs, search needs, search needs, r .all)
 
 enum-known-why : tie.Need-enum-known-why
 enum-known-why c = search needs
@@ -39,21 +42,29 @@ enum-known-why c = search needs
 same-length : tie.Need-same-length
 same-length c = search needs
 
+same-length-2 : tie.Need-same-length-2
+same-length-2 c = search needs
+
 returns : tie.Need-returns
-returns c = let a = c .before .before .before .before .before .before .before .before .before .before .before .before .before .before .args in
-    let f = c .before .before .before .before .before .before .before .before .before .judge in
-    let answers = rw (c .before .before .before .before .before .before .whole .given .1) at (f .ensures .0) in
+returns c =
+    let judged = c .before .before .before .before .before .before .before .before .before .before .before .before in
+    let f = judged .judge in
+    let refs = now (judged .before .before .before .before .before .before .args .references) in
+    let answers = rw (c .before .before .before .before .before .before .before .before .before .whole .given .1) at (f .ensures .0) in
     let p = answered _ _ (answers .answer) in
-    let fs = known (f .last .1 .1 .1 .1 .0) (now (a .references)) in
+    let ready = f .ensures .1 (p .0) (p .1) in
+    let fs = known (f .last .1 .1 .1 .1 .0) refs in
+    let written-by = c .before .before .before .before .write .ensures in
     record {
       answers = answers;
-      buffer = written _ (p .0) (starts 0 fs) _ _ (length (now (a .references))) (p .1) (f .ensures .1 (p .0) (p .1) .offsets-are)
-          (starts-length 0 fs ∙ length-map (now (a .references)) _) (c .before .before .write .ensures);
+      offsets = written offsetsOf _ (p .0) (starts 0 fs) _ _ (length refs) (p .1) (ready .offsets) (starts-length 0 fs ∙ length-map refs _) (written-by .0);
+      gaps = written gapsOf _ (p .0) (canonGaps.gaps 0 fs) _ _ (length refs) (p .1) (ready .gaps) (gaps-length 0 fs ∙ length-map refs _) (written-by .1);
     }
 
 returns-2 : tie.Need-returns-2
-returns-2 c = let answers = rw (c .before .why .given .1) at (c .before .before .before .before .judge .ensures .0) in
-    record { answers = answers; buffer = untouched _ _ _ _ (answers .answer) }
+returns-2 c =
+    let answers = rw (c .before .why .given .1) at (c .before .before .before .before .judge .ensures .0) in
+    record { answers = answers; offsets = untouched offsetsOf _ _ _ _ (answers .answer); gaps = untouched gapsOf _ _ _ _ (answers .answer) }
 
 pub place-long-spec : {M : Type 1} → statement M
 place-long-spec =
@@ -66,5 +77,6 @@ place-long-spec =
     write-requires
     enum-known-why
     same-length
+    same-length-2
     returns
     returns-2)

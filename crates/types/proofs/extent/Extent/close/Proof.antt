@@ -1,15 +1,15 @@
--- From what `member` ensures.
-use Rattle.types.specs.Extents.{closeOf}
+-- From what `closing` ensures.
+use mathlib.Core.Path.{ap}
+use Rattle.types.specs.declared.extent.Step.{Step}
 use borrow.Author.Needs.{needs}
 use Rattle.types.proofs.extent.Extent.close.Statement.{statement}
 use Rattle.types.proofs.extent.Extent.close.Tie as tie
 
-member-requires : tie.Need-member-requires
-member-requires c κs = search needs
+closing-requires : tie.Need-closing-requires
+closing-requires c κs = search needs
 
 returns : tie.Need-returns
-unfolding closeOf
-returns c = simp (c .before .member .ensures)
+returns c = ap (λ (s : Step). s .extent) (c .before .closing .ensures)
 
 pub close-spec : {M : Type 1} → statement M
-close-spec = tie.close (tie.spec member-requires returns)
+close-spec = tie.close (tie.spec closing-requires returns)
