@@ -10,7 +10,14 @@ use std::hint::black_box;
 const ROWS: u32 = 1_000;
 
 pub fn run(report: &mut Report) {
-    for (many, least) in [(1, 1.2), (8, 1.2), (64, 1.2), (1_000, 1.2), (16_384, 1.4)] {
+    for (many, least) in [
+        (1, 1.2),
+        (8, 1.2),
+        (64, 1.2),
+        (256, 1.2),
+        (1_000, 1.2),
+        (16_384, 1.4),
+    ] {
         placement(report, many, least);
     }
     flatten(report);

@@ -35,7 +35,7 @@ static void print_built(uint64_t built)
 }
 
 /* Prints what a placement answers: the size in bits 0 to 31, the alignment in bits 32 to 35, the rows read back
- * in bits 40 to 55, which are none here, since no member is a definition. */
+ * in bits 40 to 55, which are none here, since no member is a definition. padding.c shows the gaps. */
 static void print_placed(uint64_t placed)
 {
     printf("size %u, alignment %u; rows read back: %u\n", (unsigned)placed, (unsigned)(placed >> 32) & 0xf,

@@ -22,7 +22,7 @@
 extern "C" {
 #endif
 
-/* The first multiple of an alignment at or after a place in bits 0 to 31, and the bytes skipped to it, 0 to 7, in bits 32 to 39.
+/* Bits 0 to 31: the first multiple of an alignment at or after a place. Bits 32 to 39: the bytes skipped to it, 0 to 7.
  *     lampughjata_align_to(13, 8) == 16 + 3 * SKIPPED
  *     lampughjata_align_to(16, 8) == 16
  *     lampughjata_align_to(13, 3) == 8 * REFUSED
@@ -142,8 +142,8 @@ uint64_t lampughjata_size_align(uint32_t memory, const uint32_t *table, size_t t
  *     offsets[2] == 40 && gaps[2] == 7
  *     lampughjata_placement(1, NULL, 0, 0, NULL, 0, NULL, 0, NULL, 0) == 1 * ALIGN
  *
- * Each buffer has room for as many words as there are references, or the call is refused (7); longer ones keep their later words. A
- * refused call writes neither. The buffers overlap neither each other nor the table nor the references.
+ * Each buffer needs room for as many words as there are references, or the call is refused (7); longer ones keep their later words. A
+ * refused call writes neither. The buffers must overlap neither each other nor the table nor the references.
  *     lampughjata_placement(1, table, 16, 1, members, 3, offsets, 2, gaps, 3) == 7 * REFUSED
  *     lampughjata_placement(1, table, 16, 1, members, 3, offsets, 3, gaps, 2) == 7 * REFUSED
  *     lampughjata_placement(1, table, 16, 1, (uint32_t[]){2, 2, 65}, 3, offsets, 3, gaps, 3) == 4 * REFUSED + 2

@@ -12,10 +12,10 @@ enum { MEMBERS = 5 };
 static const char *const names[MEMBERS] = {"state", "taken-at", "channel", "name", "checksum"};
 static const uint32_t types[MEMBERS] = {U8, U64, U8, STRING, U16};
 
-/* A letter for each member; after z comes a again. */
+/* A letter for each member. */
 static char letter(uint32_t member)
 {
-    return (char)('a' + member % 26);
+    return (char)('a' + member);
 }
 
 /* Draws the bytes from one place to another, and the place in front of each row that begins there. */

@@ -28,9 +28,9 @@ fn main() -> Result<(), Refused> {
     Ok(())
 }
 
-/// One for each member; after z comes a again.
+/// One for each member.
 fn letters() -> impl Iterator<Item = char> {
-    ('a'..='z').cycle()
+    'a'..='z'
 }
 
 /// The record byte by byte.
@@ -46,5 +46,5 @@ fn picture(placed: &Placement) -> Vec<char> {
 fn ends(placed: &Placement) -> impl Iterator<Item = u32> {
     let others = placed.offsets.iter().zip(&placed.gaps).skip(1);
     let before_others = others.map(|(start, gap)| start - gap);
-    before_others.chain([placed.size - placed.after])
+    before_others.chain([placed.size - placed.gap_after])
 }

@@ -49,7 +49,7 @@ pub fn placement(value: u64, offsets: Vec<u32>, gaps: Vec<u32>) -> Placement {
         gaps,
         size: value as u32,
         align: (value >> 32) as u32 & 0xf,
-        after: (value >> 36) as u32 & 0xf,
+        gap_after: (value >> 36) as u32 & 0xf,
         reads: (value >> 40) as u32,
     }
 }

@@ -1,10 +1,11 @@
 //! Where the members of a WebAssembly component's types stand in memory, and as which core types a call
 //! carries them: the layout and flattening of the canonical ABI, for 32-bit and 64-bit memories.
 //!
-//! The answers come from a static library that is proved: each size, offset and signature is that of a
+//! The answers come from a static library that is proved: each size, offset, gap and signature is that of a
 //! definition written from the Canonical ABI, and each call returns for every word and table given to it,
 //! with a numbered [`Refusal`] where there is no answer. This crate only gives the library's numbers
-//! their types. It copies nothing: tables, references, offsets and gaps are lent to the library as they are.
+//! their types. It copies nothing: tables and references are lent to the library as they are, and a placement's
+//! offsets and gaps are written where they are answered.
 //!
 //! A description lists definitions in u32 words ([`Description`] writes it), a [`Table`] has one row for
 //! each, and every question is put to a table. The leaves and the calls over bytes have no types of their own here:

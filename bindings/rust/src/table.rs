@@ -76,7 +76,7 @@ pub struct Placement {
     pub size: u32,
     pub align: u32,
     /// The bytes lost after the last member, up to the size: 0 to 7.
-    pub after: u32,
+    pub gap_after: u32,
     /// How many rows were read back: one for each member that is a definition, each time it is named.
     pub reads: u32,
 }
@@ -94,9 +94,8 @@ impl Placement {
     /// assert_eq!(table.placement(Memory::Memory32, &sorted)?.padding(), 6);
     /// # Ok::<(), lampughjata::Refused>(())
     /// ```
-    pub fn padding(&self) -> u64 {
-        let gaps = self.gaps.iter().copied().chain([self.after]);
-        gaps.map(u64::from).sum()
+    pub fn padding(&self) -> u32 {
+        self.gaps.iter().sum::<u32>() + self.gap_after
     }
 }
 
@@ -437,7 +436,7 @@ impl<W: AsRef<[u32]>> Table<W> {
     /// # let table = Table::build(description.words())?;
     /// let placed = table.placement(Memory::Memory32, &members)?;
     /// assert_eq!(placed.offsets, [0, 4, 12]);
-    /// assert_eq!((placed.gaps, placed.after), (vec![0, 3, 0], 3));
+    /// assert_eq!((placed.gaps, placed.gap_after), (vec![0, 3, 0], 3));
     /// assert_eq!((placed.size, placed.align), (16, 4));
     ///
     /// let placed = table.placement(Memory::Memory32, &[named, named])?;

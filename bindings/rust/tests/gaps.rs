@@ -35,8 +35,8 @@ fn assert_adds_up(table: &Table, memory: Memory, members: &[Reference]) {
         end = offset + layout.size;
         greatest = greatest.max(layout.align);
     }
-    assert_eq!(placed.size, end + placed.after, "{members:?}");
-    assert!(placed.after < greatest && placed.size % greatest == 0);
+    assert_eq!(placed.size, end + placed.gap_after, "{members:?}");
+    assert!(placed.gap_after < greatest && placed.size % greatest == 0);
 }
 
 #[test]
@@ -51,12 +51,12 @@ fn every_three_members_add_up() {
     }
 }
 
-/// Around 16, 64 and 1,024 members, where the port changes its way, and up to the most.
+/// Around 64, 256 and 1,024 members, where the port changes its way, and up to the most.
 #[test]
 fn long_placements_add_up() {
     let (table, types) = types();
     for count in [
-        16, 17, 63, 64, 65, 256, 257, 1_023, 1_024, 1_025, 16_383, 16_384,
+        63, 64, 65, 255, 256, 257, 1_023, 1_024, 1_025, 16_383, 16_384,
     ] {
         let members: Vec<_> = types.iter().copied().cycle().take(count).collect();
         for memory in MEMORIES {
@@ -68,7 +68,7 @@ fn long_placements_add_up() {
 /// The gaps before the members, and the one after the last.
 fn gaps(memory: Memory, members: &[Reference]) -> (Vec<u32>, u32) {
     let placed = types().0.placement(memory, members).unwrap();
-    (placed.gaps, placed.after)
+    (placed.gaps, placed.gap_after)
 }
 
 #[test]
@@ -85,7 +85,7 @@ fn no_members_lose_nothing() {
         gaps: vec![],
         size: 0,
         align: 1,
-        after: 0,
+        gap_after: 0,
         reads: 0,
     };
     for memory in MEMORIES {
@@ -103,7 +103,7 @@ fn a_member_of_no_bytes_has_a_gap() {
     let table = Table::build(description.words()).unwrap();
     let placed = |members: &[Reference]| {
         let placed = table.placement(Memory::Memory32, members).unwrap();
-        (placed.offsets, placed.gaps, placed.size, placed.after)
+        (placed.offsets, placed.gaps, placed.size, placed.gap_after)
     };
     assert_eq!(placed(&[none]), (vec![0], vec![0], 0, 0));
     assert_eq!(placed(&[BYTE, none]), (vec![0, 8], vec![0, 7], 8, 0));
@@ -132,7 +132,7 @@ fn gaps_below_four_gigabytes() {
     let table = Table::build(description.words()).unwrap();
     let placed = |members: &[Reference]| {
         let placed = table.placement(Memory::Memory64, members).unwrap();
-        (placed.gaps, placed.size, placed.after)
+        (placed.gaps, placed.size, placed.gap_after)
     };
     let size = 4_294_967_288;
     assert_eq!(placed(&[long, Reference::U64]), (vec![0, 7], size, 0));

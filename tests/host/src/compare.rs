@@ -85,7 +85,7 @@ impl Run {
         let room = model::ROW * most + self.random.below(4) as usize;
         let model = self.model_build(words, room);
         let answer = model.answer;
-        let n = encode::accepted(answer);
+        let n = encode::low(answer);
         // Original and model first: they must agree before the port is judged by either.
         let (original, suspects) = self.original_of(words, n as usize, &model);
         let table = self.port_build(words, model);
@@ -463,7 +463,7 @@ fn judge_port(tally: &mut Tally, fault: Option<Fault>, mut answered: Answered) {
 fn judge_rows(tally: &mut Tally, fault: Option<Fault>, answered: &Answered) {
     let lent = &answered.after[0];
     let table = model::words_of(&lent[4 * GUARD..lent.len() - 4 * GUARD]);
-    for index in 0..encode::accepted(answered.answer) as usize {
+    for index in 0..encode::low(answered.answer) as usize {
         let mut row = model::row(&table, index);
         Fault::PortMemories.exchange(fault, &mut row);
         tally.port_row(&row);
@@ -479,7 +479,7 @@ fn judge_sum(tally: &mut Tally, fault: Option<Fault>, answered: &Answered) {
     Fault::PortSum.one_byte_more(fault, &mut after);
     let sizes = model::member_sizes(answered.call.numbers[0], &table, &references);
     let members: u64 = sizes.iter().sum();
-    let size = encode::size(answered.answer);
+    let size = encode::low(answered.answer);
     tally.sum(before + after + members == size, before + after > 0, || {
         let call = &answered.call;
         format!("{call:?}\n    size {size}, members {members}, gaps {gaps:?} and {after}")

@@ -179,7 +179,7 @@ fn original_build(words: &[u32]) -> String {
 fn model_build(words: &[u32]) -> String {
     let mut table = [0; 4 * model::ROW];
     match model::build(words, &mut table) {
-        Ok(answer) => row(&model::row(&table, encode::accepted(answer) as usize - 1)),
+        Ok(answer) => row(&model::row(&table, encode::low(answer) as usize - 1)),
         Err(refused) => format!("refusal {} at {}", refused.number, refused.at),
     }
 }

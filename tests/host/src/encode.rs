@@ -16,13 +16,9 @@ pub fn refusal(answer: u64) -> u64 {
     answer >> 56
 }
 
-/// How many definitions a build accepted: its rows, or the index of the refused one, in the same bits.
-pub fn accepted(answer: u64) -> u64 {
-    answer & u64::from(u32::MAX)
-}
-
-/// The size that a placement answers.
-pub fn size(answer: u64) -> u64 {
+/// Bits 0 to 31: how many definitions a build accepted, its rows or the index of the refused one; the size that
+/// a placement answers.
+pub fn low(answer: u64) -> u64 {
     answer & u64::from(u32::MAX)
 }
 

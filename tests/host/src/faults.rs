@@ -81,6 +81,8 @@ pub enum Fault {
     GapOfEmpty,
     /// The gap after the last member is written behind the others.
     GapAtTheEnd,
+    /// The gaps of 257 to 1,024 members are lost from the 257th on.
+    MiddleGaps,
     /// The gaps of more than 1,024 members are lost from there on.
     LateGaps,
     /// The seventeenth gap is lost over bytes.
@@ -115,7 +117,7 @@ pub enum Fault {
     OriginalList,
 }
 
-pub const FAULTS: [Fault; 49] = [
+pub const FAULTS: [Fault; 50] = [
     Fault::OffsetOneOff,
     Fault::PositionOneOff,
     Fault::TableWord,
@@ -149,6 +151,7 @@ pub const FAULTS: [Fault; 49] = [
     Fault::GapBehind,
     Fault::GapOfEmpty,
     Fault::GapAtTheEnd,
+    Fault::MiddleGaps,
     Fault::LateGaps,
     Fault::ByteGap,
     Fault::GapByteTail,
@@ -250,7 +253,7 @@ impl Fault {
         let lent = &mut after[lent];
         let mut table = words_of(lent);
         let words = words_of(call.slices[0]);
-        let built = reading::definitions(&words, encode::accepted(*answer) as usize);
+        let built = reading::definitions(&words, encode::low(*answer) as usize);
         let mut depths = Vec::with_capacity(built.len());
         for (index, definition) in built.iter().enumerate() {
             depths.push(depth(definition, &depths));
@@ -381,7 +384,7 @@ fn over_entry(definition: &Definition, before: &[u32]) -> u32 {
 /// The sum over the definitions that a build accepted, by its description and its answer.
 fn over_built(description: &[u8], answer: u64, of_one: fn(&Definition) -> usize) -> u64 {
     let words = words_of(description);
-    let built = reading::definitions(&words, encode::accepted(answer) as usize);
+    let built = reading::definitions(&words, encode::low(answer) as usize);
     built.iter().map(of_one).sum::<usize>() as u64
 }
 

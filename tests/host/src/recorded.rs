@@ -125,7 +125,7 @@ impl List {
         let Ok(answer) = model::build(words, table) else {
             return;
         };
-        let n = encode::accepted(answer);
+        let n = encode::low(answer);
         let definitions = reading::definitions(words, n as usize);
         if reading::suspects(&definitions).contains(&true) {
             return;
