@@ -16,6 +16,8 @@ pub fn run(report: &mut Report) {
         (64, 1.2),
         (256, 1.2),
         (1_000, 1.2),
+        // The shortest list that is placed twice.
+        (2_049, 1.0),
         (16_384, 1.4),
     ] {
         placement(report, many, least);

@@ -82,7 +82,8 @@ pub fn placement(
 ) -> Option<Placed> {
     // A short list does not pay for a long stage.
     match references.len() {
-        0..=64 => Stage::<64>::placement(table, n, references, offsets, gaps),
+        0..=24 => Stage::<24>::placement(table, n, references, offsets, gaps),
+        25..=64 => Stage::<64>::placement(table, n, references, offsets, gaps),
         _ => Stage::<16_384>::placement(table, n, references, offsets, gaps),
     }
 }

@@ -74,44 +74,49 @@ asked-first t n f =
 
 -- Questions
 
-many-first : (ws : List ℕ) → tooMany (take 16385 ws) ≡ tooMany ws
-many-first ws =
-    elim (decLe (length ws) 16384) [
-      | yes l ↦ rw (take-all 16385 ws (omega arith))
-      | no l ↦ rw (length-take 16385 ws) (lt-ltb mostWords (min 16385 (length ws)) (omega arith) ∙ sym (lt-ltb mostWords (length ws) (omega arith)))
-    ]
-
 few-length : (ws : List ℕ) → tooMany ws ≡ false → length ws ≤ 16384
 few-length ws h = ltb-false mostWords (length ws) h
 
-list-first : (ws : List ℕ) → tooMany ws ≡ false → take 16385 ws ≡ ws
-list-first ws h = take-all 16385 ws (omega (arith, few-length ws h))
+-- so many words of a list tell what it answers: all of them, or one too many
+abbrev pub Enough : ℕ → List ℕ → Type 0
+Enough c ws = min 16385 (length ws) ≤ c
 
--- the room of a buffer is asked for after the length of the list
-ask-room :
-    {A : Type 0} (t : List ℕ) (n : ℕ) (b s s′ : Bool) (ws : List ℕ) (k : List Info → Answer A) → (tooMany ws ≡ false → s ≡ s′) →
-    ask (take 16384 t) n b s (take 16385 ws) k ≡ ask t n b s′ ws k
-unfolding ask
-ask-room t n b s s′ ws k h =
-    rw (many-first ws)
-    (past-test (tooMany ws) tooLong
-    (λ few. rw (h few, list-first ws few) (asked-first t n (λ look. unless b badCount (unless s′ noRoom (then (infos look 0 ws) k))))))
+module _ (c : ℕ) (ws : List ℕ) (enough : Enough c ws) where
+  many-first : tooMany (take c ws) ≡ tooMany ws
+  many-first =
+      elim (decLe (length ws) 16384) [
+        | yes l ↦ rw (take-all c ws (omega arith))
+        | no l ↦ rw (length-take c ws) (lt-ltb mostWords (min c (length ws)) (omega arith) ∙ sym (lt-ltb mostWords (length ws) (omega arith)))
+      ]
+
+  list-first : tooMany ws ≡ false → take c ws ≡ ws
+  list-first h = take-all c ws (omega (arith, few-length ws h))
+
+  -- the room of a buffer is asked for after the length of the list
+  ask-room :
+      {A : Type 0} (t : List ℕ) (n : ℕ) (b s s′ : Bool) (k : List Info → Answer A) → (tooMany ws ≡ false → s ≡ s′) →
+      ask (take 16384 t) n b s (take c ws) k ≡ ask t n b s′ ws k
+  unfolding ask
+  ask-room t n b s s′ k h =
+      rw many-first
+      (past-test (tooMany ws) tooLong
+      (λ few. rw (h few, list-first few) (asked-first t n (λ look. unless b badCount (unless s′ noRoom (then (infos look 0 ws) k))))))
 
 pub ask-first :
     {A : Type 0} (t : List ℕ) (n : ℕ) (b s : Bool) (ws : List ℕ) (k : List Info → Answer A) →
     ask (take 16384 t) n b s (take 16385 ws) k ≡ ask t n b s ws k
-ask-first t n b s ws k = ask-room t n b s s ws k (λ few. refl)
+ask-first t n b s ws k = ask-room 16385 ws (omega arith) t n b s s k (λ few. refl)
 
 pub askTwo-first :
     {A : Type 0} (t : List ℕ) (n : ℕ) (vs ws : List ℕ) (k : List Info → List Info → Answer A) →
     askTwo (take 16384 t) n (take 16385 vs) (take 16385 ws) k ≡ askTwo t n vs ws k
 unfolding askTwo
 askTwo-first t n vs ws k =
-    rw (many-first vs, many-first ws)
+    rw (many-first 16385 vs (omega arith), many-first 16385 ws (omega arith))
     (past-test (tooMany vs || tooMany ws) tooLong
     (λ few.
     let both = neither (tooMany vs) (tooMany ws) few in
-    rw (list-first vs (both .0), list-first ws (both .1))
+    rw (list-first 16385 vs (omega arith) (both .0), list-first 16385 ws (omega arith) (both .1))
     (asked-first t n (λ look. then (infos look 0 vs) (λ is′. then (infos look (length vs) ws) (λ js. k is′ js))))))
 
 -- A build
@@ -186,34 +191,6 @@ table-after-first ws t =
 
 -- A placement
 
-pub padding-first : (m : Memory) (t : List ℕ) (n : ℕ) (ws : List ℕ) (room : ℕ) → padding m (take 16384 t) n (take 16385 ws) (min 16384 room) ≡ padding m t n ws room
-unfolding padding
-padding-first m t n ws room =
-    ask-room t n false (ltb (min 16384 room) (length (take 16385 ws))) (ltb room (length ws)) ws (λ is′. padded (layoutsIn m is′))
-    (λ few. rw (list-first ws few) (below-first 16384 room (length ws) (few-length ws few)))
-
-placing-first : (m : Memory) (t : List ℕ) (n : ℕ) (ws : List ℕ) (room : ℕ) → placing m (take 16384 t) n (take 16385 ws) (min 16384 room) ≡ placing m t n ws room
-placing-first m t n ws room =
-    sym (padding-placing m (take 16384 t) n (take 16385 ws) (min 16384 room))
-    ∙ ap placingOf (padding-first m t n ws room)
-    ∙ padding-placing m t n ws room
-
-pub placement-first :
-    (m : Memory) (t : List ℕ) (n : ℕ) (ws : List ℕ) (room : ℕ) →
-    placementAnswer m (take 16384 t) n (take 16385 ws) (min 16384 room) ≡ placementAnswer m t n ws room
-unfolding placementAnswer
-placement-first m t n ws room = rw (placing-first m t n ws room)
-
-pub placement-reads-first :
-    (m : Memory) (t : List ℕ) (n : ℕ) (ws : List ℕ) (room : ℕ) →
-    placementReads m (take 16384 t) n (take 16385 ws) (min 16384 room) ≡ placementReads m t n ws room
-unfolding placementReads
-placement-reads-first m t n ws room = rw (placement-first m t n ws room) (go (tooMany ws) refl)
-  where
-    go : (many : Bool) → tooMany ws ≡ many → reported (placementAnswer m t n ws room) (rowsAmong (take 16385 ws)) ≡ reported (placementAnswer m t n ws room) (rowsAmong ws)
-    go true e = rw (long-placement m t n ws room (ltb-true mostWords (length ws) e))
-    go false e = ap (λ (vs : List ℕ). reported (placementAnswer m t n ws room) (rowsAmong vs)) (list-first ws e)
-
 behind-first : {A : Type 0} (n c : ℕ) (l : List A) → n ≤ c → drop n (take c l) ++ drop c l ≡ drop n l
 behind-first zero c l h = take-append-drop c l
 behind-first (suc n) zero l h = absurd (omega arith)
@@ -230,18 +207,38 @@ buffer-front words c (ok p) out few =
     ∙ ap (λ (l : List ℕ). words p ++ l) (behind-first (length (words p)) c out (few p refl))
 buffer-front words c (refused x i) out few = take-append-drop c out
 
--- either buffer, into which a word for each reference is put and no more
-pub lent-first :
-    (words : Padded → List ℕ) (m : Memory) (t : List ℕ) (n : ℕ) (ws : List ℕ) (room : ℕ) (out : List ℕ) →
-    ((q : Padded) → padding m t n ws room ≡ ok q → length (words q) ≡ length ws) →
-    lentAfter words m (take 16384 t) n (take 16385 ws) (min 16384 room) (take 16384 out) ++ drop 16384 out ≡ lentAfter words m t n ws room out
-lent-first words m t n ws room out counted =
-    rw (padding-first m t n ws room)
-    (buffer-front words 16384 (padding m t n ws room) out
-    (λ q e. omega (arith, few-length ws (padding-gaps m t n ws room q e .1 .few), counted q e)))
+-- as many words of either buffer are enough too
+module _ (c : ℕ) (ws : List ℕ) (enough : Enough c ws) (m : Memory) (t : List ℕ) (n : ℕ) (room : ℕ) where
+  pub padding-first : padding m (take 16384 t) n (take c ws) (min c room) ≡ padding m t n ws room
+  unfolding padding
+  padding-first =
+      ask-room c ws enough t n false (ltb (min c room) (length (take c ws))) (ltb room (length ws)) (λ is′. padded (layoutsIn m is′))
+      (λ few. rw (list-first c ws enough few) (below-first c room (length ws) (omega (arith, few-length ws few))))
 
-pub after-first :
-    (m : Memory) (t : List ℕ) (n : ℕ) (ws : List ℕ) (room : ℕ) →
-    afterAnswer m (take 16384 t) n (take 16385 ws) (min 16384 room) ≡ afterAnswer m t n ws room
-unfolding afterAnswer
-after-first m t n ws room = rw (padding-first m t n ws room)
+  placing-first : placing m (take 16384 t) n (take c ws) (min c room) ≡ placing m t n ws room
+  placing-first = sym (padding-placing m (take 16384 t) n (take c ws) (min c room)) ∙ ap placingOf padding-first ∙ padding-placing m t n ws room
+
+  pub placement-first : placementAnswer m (take 16384 t) n (take c ws) (min c room) ≡ placementAnswer m t n ws room
+  unfolding placementAnswer
+  placement-first = rw placing-first
+
+  pub placement-reads-first : placementReads m (take 16384 t) n (take c ws) (min c room) ≡ placementReads m t n ws room
+  unfolding placementReads
+  placement-reads-first = rw placement-first (go (tooMany ws) refl)
+    where
+      go : (many : Bool) → tooMany ws ≡ many → reported (placementAnswer m t n ws room) (rowsAmong (take c ws)) ≡ reported (placementAnswer m t n ws room) (rowsAmong ws)
+      go true e = rw (long-placement m t n ws room (ltb-true mostWords (length ws) e))
+      go false e = ap (λ (vs : List ℕ). reported (placementAnswer m t n ws room) (rowsAmong vs)) (list-first c ws enough e)
+
+  pub after-first : afterAnswer m (take 16384 t) n (take c ws) (min c room) ≡ afterAnswer m t n ws room
+  unfolding afterAnswer
+  after-first = rw padding-first
+
+  -- a word for each reference is put into a buffer and no more
+  pub lent-first :
+      (words : Padded → List ℕ) (out : List ℕ) → ((q : Padded) → padding m t n ws room ≡ ok q → length (words q) ≡ length ws) →
+      lentAfter words m (take 16384 t) n (take c ws) (min c room) (take c out) ++ drop c out ≡ lentAfter words m t n ws room out
+  lent-first words out counted =
+      rw padding-first
+      (buffer-front words c (padding m t n ws room) out
+      (λ q e. omega (arith, few-length ws (padding-gaps m t n ws room q e .1 .few), counted q e)))

@@ -29,7 +29,7 @@ use Rattle.canon.proofs.Built.{found-inside, at-each}
 use Rattle.canon.proofs.Refusals.{Spells, accepted-spells}
 use Rattle.canon.proofs.Stopped.{Comes, begins, passes, comes-room, comes-all}
 use Rattle.canon.proofs.Cells.{rows-most}
-use Rattle.canon.proofs.Questions.{after-abi, read-below, first-ok}
+use Rattle.canon.proofs.Questions.{after-abi, first-ok}
 use Rattle.canon.specs.Placement.{Every}
 
 -- Among references
@@ -357,9 +357,6 @@ module _ (t : List ℕ) (n : ℕ) (there : noTable t n ≡ false) where
       go false c g (some u) p q good f e =
           let same : infoOf u ≡ i = cc in
           rw (p, ← same, plain-depth w u f)
-
-  pub named-read : (w : ℕ) (i : Info) → read t n w ≡ is i → 64 ≤ w → rowsAmong (w ∷ []) ≡ 1
-  named-read w i e h = sym (rw (le-leb 64 w h) at (below-mark-read w (omega (arith, read-below t n w i there e))))
 
   -- and exactly when it names one of the rows
   read-row : (w : ℕ) (i : Info) → read t n w ≡ is i → isRow w ≡ isEarlier n w

@@ -73,7 +73,7 @@ first-table w t bytes = go (tooManyBytes w) (cutBytes w)
         sym (puts-front 0 after front (drop 65536 t) (omega (arith, long, n, length-whole t, length-take 65536 t)))
         ∙ ap (putWords 0 after) (take-append-drop 65536 t)
         ∙ ap (λ (ws : List ℕ). putWords 0 ws t) (sym (take-all (length t / 4) after (omega (arith, long, n, length-whole t))))
-        ∙ table-put after t bytes long (wholeWords w) same
+        ∙ table-put after t bytes (wholeWords w) long same
 
     go : (a b : Bool) → cond a front (cond b front (putWords 0 after front)) ++ drop 65536 t ≡ cond a t (cond b t (putWords 0 (tableAfter (wholeWords w) (wholeWords t)) t))
     go true b = take-append-drop 65536 t

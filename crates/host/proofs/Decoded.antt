@@ -14,7 +14,7 @@ use Rattle.canon.specs.Signature.{flattenAnswer, asyncStartAnswer, asyncReturnA
 use Rattle.canon.specs.Answer.{Answer, ok}
 use Rattle.canon.specs.Question.{borrowAnswer, bufferAfter}
 use Rattle.canon.specs.Gaps.{Padded, roomOf, padding, lentAfter}
-use Rattle.canon.proofs.Capped.{ask-first, askTwo-first, table-after-first, placement-first, placement-reads-first, after-first, padding-first, lent-first}
+use Rattle.canon.proofs.Capped.{Enough, ask-first, askTwo-first, table-after-first, placement-first, placement-reads-first, after-first, padding-first, lent-first}
 use Rattle.words.specs.Words.{wholeWords, putWords}
 use Rattle.words.proofs.Laws.{length-whole, front-read, put-rest}
 use Rattle.host.specs.Numbers.{placementCall}
@@ -69,23 +69,23 @@ question-cut q t n vs ws =
 pub room-first : (c : ℕ) (out gs : List ℕ) → roomOf (take c out) (take c gs) ≡ min c (roomOf out gs)
 room-first c out gs = rw (length-take c out, length-take c gs) (omega arith)
 
-pub call-first :
-    (m : Memory) (t : List ℕ) (n : ℕ) (ws : List ℕ) (room : ℕ) → placementCall m (take 16384 t) n (take 16385 ws) (min 16384 room) ≡ placementCall m t n ws room
-call-first m t n ws room = rw (placement-first m t n ws room, placement-reads-first m t n ws room, after-first m t n ws room)
+module _ (c : ℕ) (ws : List ℕ) (enough : Enough c ws) (m : Memory) (t : List ℕ) (n room : ℕ) where
+  pub call-first : placementCall m (take 16384 t) n (take c ws) (min c room) ≡ placementCall m t n ws room
+  call-first = rw (placement-first c ws enough m t n room, placement-reads-first c ws enough m t n room, after-first c ws enough m t n room)
 
 pub call-cut : (m : Memory) (t : List ℕ) (n : ℕ) (ws : List ℕ) (room : ℕ) → placementCall m (take 16384 t) n ws room ≡ placementCall m t n ws room
 call-cut m t n ws room =
-    sym (call-first m (take 16384 t) n ws room)
-    ∙ ap (λ (u : List ℕ). placementCall m u n (take 16385 ws) (min 16384 room)) (cut-twice t)
-    ∙ call-first m t n ws room
+    sym (call-first 16385 ws (omega arith) m (take 16384 t) n room)
+    ∙ ap (λ (u : List ℕ). placementCall m u n (take 16385 ws) (min 16385 room)) (cut-twice t)
+    ∙ call-first 16385 ws (omega arith) m t n room
 
 pub lent-cut :
     (words : Padded → List ℕ) (m : Memory) (t : List ℕ) (n : ℕ) (ws : List ℕ) (room : ℕ) (out : List ℕ) → lentAfter words m (take 16384 t) n ws room out ≡ lentAfter words m t n ws room out
 lent-cut words m t n ws room out =
     ap (λ (a : Answer Padded). bufferAfter words a out)
-    (sym (padding-first m (take 16384 t) n ws room)
-    ∙ ap (λ (u : List ℕ). padding m u n (take 16385 ws) (min 16384 room)) (cut-twice t)
-    ∙ padding-first m t n ws room)
+    (sym (padding-first 16385 ws (omega arith) m (take 16384 t) n room)
+    ∙ ap (λ (u : List ℕ). padding m u n (take 16385 ws) (min 16385 room)) (cut-twice t)
+    ∙ padding-first 16385 ws (omega arith) m t n room)
 
 -- the first words of a table or a buffer became x: put back, they leave what the rest, put back as it was, would have left
 pub front-put :
@@ -105,13 +105,16 @@ front-put c x b bytes l e =
               ∙ sym (drop-of-length-le (wholeWords b) {i = c} (omega (arith, length-whole b)))
         ]
 
-module _ (x b : List ℕ) (bytes : (i : ℕ) → getD b i 0 < 256) (l : length x ≡ length (take 16384 (wholeWords b))) where
-  pub table-put : (ws : List ℕ) → x ≡ tableAfter ws (take 16384 (wholeWords b)) → putWords 0 (take (length b / 4) x) b ≡ putWords 0 (tableAfter ws (wholeWords b)) b
-  table-put ws e = front-put 16384 x b bytes l (ap (λ (y : List ℕ). y ++ drop 16384 (wholeWords b)) e ∙ table-after-first ws (wholeWords b))
+module _ (x b : List ℕ) (bytes : (i : ℕ) → getD b i 0 < 256) where
+  pub table-put :
+      (ws : List ℕ) → length x ≡ length (take 16384 (wholeWords b)) → x ≡ tableAfter ws (take 16384 (wholeWords b)) →
+      putWords 0 (take (length b / 4) x) b ≡ putWords 0 (tableAfter ws (wholeWords b)) b
+  table-put ws l e = front-put 16384 x b bytes l (ap (λ (y : List ℕ). y ++ drop 16384 (wholeWords b)) e ∙ table-after-first ws (wholeWords b))
 
   pub lent-put :
-      (words : Padded → List ℕ) (m : Memory) (t : List ℕ) (n : ℕ) (ws : List ℕ) (room : ℕ) → ((q : Padded) → padding m t n ws room ≡ ok q → length (words q) ≡ length ws) →
-      x ≡ lentAfter words m (take 16384 t) n (take 16385 ws) (min 16384 room) (take 16384 (wholeWords b)) →
+      (c : ℕ) (words : Padded → List ℕ) (m : Memory) (t : List ℕ) (n : ℕ) (ws : List ℕ) (room : ℕ) → Enough c ws → length x ≡ length (take c (wholeWords b)) →
+      ((q : Padded) → padding m t n ws room ≡ ok q → length (words q) ≡ length ws) →
+      x ≡ lentAfter words m (take 16384 t) n (take c ws) (min c room) (take c (wholeWords b)) →
       putWords 0 (take (length b / 4) x) b ≡ putWords 0 (lentAfter words m t n ws room (wholeWords b)) b
-  lent-put words m t n ws room counted e =
-      front-put 16384 x b bytes l (ap (λ (y : List ℕ). y ++ drop 16384 (wholeWords b)) e ∙ lent-first words m t n ws room (wholeWords b) counted)
+  lent-put c words m t n ws room enough l counted e =
+      front-put c x b bytes l (ap (λ (y : List ℕ). y ++ drop c (wholeWords b)) e ∙ lent-first c ws enough m t n room words (wholeWords b) counted)

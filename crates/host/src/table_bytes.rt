@@ -2,10 +2,11 @@
 // are not written stay.
 ghost use mathlib.Core.Path.{_≡_};
 ghost use lib.ListN.{length, take};
-ghost use Prim.Native.Nat.{_/_, _≤_};
+ghost use Prim.Native.Nat.{_/_, _≤_, min};
 ghost use Rattle.canon.specs.Question.{typeAnswer, sizeAlignAnswer, offsetsAfter};
 ghost use Rattle.canon.specs.Gaps.{roomOf, gapsAfter};
 ghost use Rattle.words.specs.Words.{wholeWords, putWords};
+ghost use Rattle.host.specs.Bytes.{PlacesBytes};
 ghost use Rattle.host.specs.Numbers.{memoryAt, answerNumber, chosen, typeWords, layoutNumber, placementCall};
 use crate::packing::refused;
 use crate::pick::PICKED_WORDS;
@@ -24,6 +25,12 @@ use table::TABLE_WORDS;
 use types::Refusal;
 use words::put_words;
 use words::words_of;
+
+// A list of at most so many references is decoded into smaller arrays: an array is cleared first, and the larger ones take longer than the list.
+const MEDIUM_LIST: usize = 1024;
+
+// One reference more than a list may have tells that it is too long.
+const LONG_LIST: usize = MOST_REFERENCES + 1;
 
 #[no_mangle]
 pub extern "C" fn lampughjata_type_bytes(table: &[u8], rows: u32, reference: u32, k: u32) -> u64
@@ -76,27 +83,26 @@ fn place_into(
     answer
 }
 
-// No offset and no gap stands beyond the word 16,384 of a buffer.
-fn place_whole(
+// Decodes into three arrays of one length, which have a word for each reference or one more than a list may have: no offset and no gap stands beyond.
+fn place_decoded(
     memory: u32,
     table: &[u8],
     rows: u32,
     references: &[u8],
     offsets: &mut [u8],
     gaps: &mut [u8],
+    rs: &mut [u32],
+    os: &mut [u32],
+    gs: &mut [u32],
 ) -> u64
-    ensures { λ r. ⌜ r ≡ placementCall (memoryAt memory) (wholeWords (now (table .entry))) rows (wholeWords (now (references .entry))) (roomOf (wholeWords (now (offsets .entry))) (wholeWords (now (gaps .entry)))) ⌝ }
-    ensures { λ _. ⌜ now (offsets .exit) ≡ putWords 0 (offsetsAfter (memoryAt memory) (wholeWords (now (table .entry))) rows (wholeWords (now (references .entry))) (roomOf (wholeWords (now (offsets .entry))) (wholeWords (now (gaps .entry)))) (wholeWords (now (offsets .entry)))) (now (offsets .entry)) ⌝ }
-    ensures { λ _. ⌜ now (gaps .exit) ≡ putWords 0 (gapsAfter (memoryAt memory) (wholeWords (now (table .entry))) rows (wholeWords (now (references .entry))) (roomOf (wholeWords (now (offsets .entry))) (wholeWords (now (gaps .entry)))) (wholeWords (now (gaps .entry)))) (now (gaps .entry)) ⌝ }
+    requires { ⌜ (min 16385 (length (now references) / 4) ≤ length (now rs)) × (length (now os) ≡ length (now rs)) × (length (now gs) ≡ length (now rs)) ⌝ }
+    ensures { λ r. ⌜ PlacesBytes (memoryAt memory) (now (table .entry)) rows (now (references .entry)) (now (offsets .entry)) (now (gaps .entry)) r (now (offsets .exit)) (now (gaps .exit)) ⌝ }
 {
     let mut ts = [0u32; TABLE_WORDS];
     let room = words_of(table, &mut ts);
-    let mut rs = [0u32; MOST_REFERENCES + 1];
-    let count = words_of(references, &mut rs);
-    let mut os = [0u32; MOST_REFERENCES];
-    let offset_room = words_of(offsets, &mut os);
-    let mut gs = [0u32; MOST_REFERENCES];
-    let gap_room = words_of(gaps, &mut gs);
+    let count = words_of(references, rs);
+    let offset_room = words_of(offsets, os);
+    let gap_room = words_of(gaps, gs);
     place_into(
         memory,
         &ts[..room],
@@ -106,6 +112,59 @@ fn place_whole(
         &mut gs[..gap_room],
         offsets,
         gaps,
+    )
+}
+
+fn place_medium(
+    memory: u32,
+    table: &[u8],
+    rows: u32,
+    references: &[u8],
+    offsets: &mut [u8],
+    gaps: &mut [u8],
+) -> u64
+    requires { ⌜ length (now references) / 4 ≤ 1024 ⌝ }
+    ensures { λ r. ⌜ PlacesBytes (memoryAt memory) (now (table .entry)) rows (now (references .entry)) (now (offsets .entry)) (now (gaps .entry)) r (now (offsets .exit)) (now (gaps .exit)) ⌝ }
+{
+    let mut rs = [0u32; MEDIUM_LIST];
+    let mut os = [0u32; MEDIUM_LIST];
+    let mut gs = [0u32; MEDIUM_LIST];
+    place_decoded(
+        memory,
+        table,
+        rows,
+        references,
+        offsets,
+        gaps,
+        &mut rs,
+        &mut os,
+        &mut gs,
+    )
+}
+
+fn place_long(
+    memory: u32,
+    table: &[u8],
+    rows: u32,
+    references: &[u8],
+    offsets: &mut [u8],
+    gaps: &mut [u8],
+) -> u64
+    ensures { λ r. ⌜ PlacesBytes (memoryAt memory) (now (table .entry)) rows (now (references .entry)) (now (offsets .entry)) (now (gaps .entry)) r (now (offsets .exit)) (now (gaps .exit)) ⌝ }
+{
+    let mut rs = [0u32; LONG_LIST];
+    let mut os = [0u32; LONG_LIST];
+    let mut gs = [0u32; LONG_LIST];
+    place_decoded(
+        memory,
+        table,
+        rows,
+        references,
+        offsets,
+        gaps,
+        &mut rs,
+        &mut os,
+        &mut gs,
     )
 }
 
@@ -119,9 +178,7 @@ fn place_picked(
     gaps: &mut [u8],
 ) -> u64
     requires { ⌜ length (now references) / 4 ≤ 16 ⌝ }
-    ensures { λ r. ⌜ r ≡ placementCall (memoryAt memory) (wholeWords (now (table .entry))) rows (wholeWords (now (references .entry))) (roomOf (wholeWords (now (offsets .entry))) (wholeWords (now (gaps .entry)))) ⌝ }
-    ensures { λ _. ⌜ now (offsets .exit) ≡ putWords 0 (offsetsAfter (memoryAt memory) (wholeWords (now (table .entry))) rows (wholeWords (now (references .entry))) (roomOf (wholeWords (now (offsets .entry))) (wholeWords (now (gaps .entry)))) (wholeWords (now (offsets .entry)))) (now (offsets .entry)) ⌝ }
-    ensures { λ _. ⌜ now (gaps .exit) ≡ putWords 0 (gapsAfter (memoryAt memory) (wholeWords (now (table .entry))) rows (wholeWords (now (references .entry))) (roomOf (wholeWords (now (offsets .entry))) (wholeWords (now (gaps .entry)))) (wholeWords (now (gaps .entry)))) (now (gaps .entry)) ⌝ }
+    ensures { λ r. ⌜ PlacesBytes (memoryAt memory) (now (table .entry)) rows (now (references .entry)) (now (offsets .entry)) (now (gaps .entry)) r (now (offsets .exit)) (now (gaps .exit)) ⌝ }
 {
     if no_rows(table, rows) {
         return refused(Refusal::BadRow, 0);
@@ -169,8 +226,12 @@ pub extern "C" fn lampughjata_placement_bytes(
             gaps,
         );
     }
-    if references.len() / 4 > SHORT_LIST {
-        return place_whole(memory, table, rows, references, offsets, gaps);
+    let count = references.len() / 4;
+    if count <= SHORT_LIST {
+        return place_picked(memory, table, rows, references, offsets, gaps);
     }
-    place_picked(memory, table, rows, references, offsets, gaps)
+    if count <= MEDIUM_LIST {
+        return place_medium(memory, table, rows, references, offsets, gaps);
+    }
+    place_long(memory, table, rows, references, offsets, gaps)
 }

@@ -1,18 +1,21 @@
 -- One reference: what a question takes of it is a part of what canon's `read` gives. A loop over
 -- references: these infos have been read, and the rest comes behind them. A law for each turn, whatever is made of the infos.
 use mathlib.Core.Path.{_≡_, refl, sym, ap, _∙_}
+use mathlib.Core.Bool.{false}
 use mathlib.Core.List.{List, [], _∷_, _++_, append-assoc, append-nil}
-use Prim.Native.Nat.{ℕ, _+_, _≤_, _<_}
+use Prim.Native.Nat.{ℕ, _+_, _-_, _≤_, _<_}
 use native.Mathlib.Numerals.{add-one}
 use lib.ListN.{length, getD, getElem?, drop, drop-of-length-le}
 use lib.Seq.{drop-cons}
-use borrow.Author.Tests.{lt-leb}
-use Rattle.canon.specs.Answer.{Leaf, is, no, Answer, ok, refused, atPosition, then, andThen}
+use borrow.Author.Tests.{lt-leb, le-leb, lt-ltb, le-ltb}
+use Rattle.canon.specs.Answer.{Leaf, is, no, badRef, Answer, ok, refused, atPosition, then, andThen}
 use Rattle.canon.specs.Row.{Info}
 use Rattle.canon.specs.Types.{plain}
-use Rattle.canon.specs.Question.{plainInfo, read, infos}
+use Rattle.canon.specs.Question.{plainInfo, readRow, read, noTable, infos}
 use Rattle.canon.proofs.Tests.{impossible}
 use Rattle.canon.proofs.Questions.{then-then, then-ext}
+use Rattle.table.specs.Rows.{rowIn}
+use Rattle.table.proofs.Reading.{row-is}
 use Rattle.questions.specs.Steps.{part}
 
 -- One reference
@@ -21,6 +24,16 @@ use Rattle.questions.specs.Steps.{part}
 pub read-plain : (t : List ℕ) (n w : ℕ) → w < 64 → read t n w ≡ plainInfo (getElem? plain w)
 unfolding read
 read-plain t n w h = rw (lt-leb 64 w h)
+
+-- a word from 64 on names a row, and the table has it or not
+module _ (t : List ℕ) (n w : ℕ) (h : 64 ≤ w) where
+  pub read-past : n ≤ w - 64 → read t n w ≡ no badRef
+  unfolding read
+  read-past l = rw (le-leb 64 w h, le-ltb (w - 64) n l)
+
+  pub read-named : noTable t n ≡ false → w - 64 < n → read t n w ≡ readRow (rowIn t (w - 64))
+  unfolding read
+  read-named e l = rw (le-leb 64 w h, lt-ltb (w - 64) n l, row-is t n (w - 64) e l)
 
 -- what is taken of a reference tells what was read, and so does a refusal
 

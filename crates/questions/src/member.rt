@@ -16,14 +16,13 @@ ghost use Rattle.questions.specs.Steps.{part, memberLayout, memoLayout, 
 use crate::answer::LayoutAnswer;
 use crate::pair::Half;
 use crate::pair::pair;
-use crate::read::Named;
 use crate::read::no_table;
-use crate::read::row_named;
 use table::DefinitionIndex;
 use table::FIRST_DEFINITION;
 use table::Found;
 use table::MemberPosition;
-use table::is_good_row;
+use table::good_first_words;
+use table::good_later_words;
 use table::plain_info;
 use table::row_layout;
 use types::Layout;
@@ -49,6 +48,25 @@ fn plain_member(memory: Memory, reference: u32, reads: u32) -> Member
     }
 }
 
+// Tests the row in two halves: each is short enough for the compiler to put it into the loop of fill, where the columns are then found once
+// (docs/BENCHMARKS.md).
+fn row_member(memory: Memory, table: &[u32], n: u32, reference: u32, reads: u32) -> Member
+    requires { ⌜ (noTable (now table) n ≡ false) × (64 ≤ reference) × (reads ≤ 16384) ⌝ }
+    ensures { λ r. ⌜ memberMeans r ≡ memberLayout (memoryOf memory) (now (table .entry)) n reference ⌝ }
+    ensures { λ r. ⌜ MemberReads r (reads + rowsAmong (reference ∷ [])) ⌝ }
+{
+    let index = DefinitionIndex(reference - FIRST_DEFINITION);
+    if index.0 < n {
+        if good_first_words(table, index) {
+            if good_later_words(table, index) {
+                return Member::Layout(row_layout(table, index, memory), reads + 1);
+            }
+        }
+        return Member::Refused(Refusal::BadRow);
+    }
+    Member::Refused(Refusal::BadRef)
+}
+
 // Reads a reference, and adds its row, if it names one, to those read before.
 pub(crate) fn read_member(
     memory: Memory,
@@ -62,34 +80,30 @@ pub(crate) fn read_member(
     ensures { λ r. ⌜ MemberReads r (reads + rowsAmong (reference ∷ [])) ⌝ }
 {
     if reference < FIRST_DEFINITION {
-        return plain_member(memory, reference, reads);
-    }
-    match row_named(table, n, reference) {
-        Named::Row(index) => Member::Layout(row_layout(table, index, memory), reads + 1),
-        Named::Refused(why) => Member::Refused(why),
+        plain_member(memory, reference, reads)
+    } else {
+        row_member(memory, table, n, reference, reads)
     }
 }
 
-// Tests the row as row_named does, but by itself: with one caller alone the compiler would take is_good_row into row_named, and that out of the loops of
-// the other questions (docs/BENCHMARKS.md).
+// Tests the row in two halves too, by itself: a second caller would take row_member out of that loop.
 fn size_align_of_row(memory: Memory, table: &[u32], n: u32, reference: u32) -> LayoutAnswer
     requires { ⌜ (noTable (now table) n ≡ false) × (64 ≤ reference) ⌝ }
     ensures { λ r. ⌜ layoutAnswerMeans r ≡ atPosition 0 (memberLayout (memoryOf memory) (now (table .entry)) n reference) ⌝ }
 {
     let index = DefinitionIndex(reference - FIRST_DEFINITION);
     if index.0 < n {
-        if is_good_row(table, index) {
-            LayoutAnswer::Layout(row_layout(table, index, memory))
-        } else {
-            LayoutAnswer::Refused(Refusal::BadRow, MemberPosition(0))
+        if good_first_words(table, index) {
+            if good_later_words(table, index) {
+                return LayoutAnswer::Layout(row_layout(table, index, memory));
+            }
         }
-    } else {
-        LayoutAnswer::Refused(Refusal::BadRef, MemberPosition(0))
+        return LayoutAnswer::Refused(Refusal::BadRow, MemberPosition(0));
     }
+    LayoutAnswer::Refused(Refusal::BadRef, MemberPosition(0))
 }
 
 // Answers size and alignment in one memory. Refuses BadRow for the table, then BadRef for the reference, then BadRow for its row.
-// Reads the row itself: a second caller would take read_member out of the placement's loop.
 pub fn size_align(memory: Memory, table: &[u32], n: u32, reference: u32) -> LayoutAnswer
     ensures { λ r. ⌜ layoutAnswerMeans r ≡ sizeAlignAnswer (memoryOf memory) (now (table .entry)) n reference ⌝ }
 {

@@ -1,4 +1,4 @@
-// Answers a placement in one memory. Up to 1,024 offsets and gaps are staged in pairs, and copied when all is accepted. More are placed twice: the first
+// Answers a placement in one memory. Up to 2,048 offsets and gaps are staged in pairs, and copied when all is accepted. More are placed twice: the first
 // pass judges and remembers each layout, the second writes.
 ghost use mathlib.Core.Path.{_≡_};
 ghost use mathlib.Core.Bool.{false};
@@ -138,61 +138,20 @@ fn write(references: &[u32], memo: &[u64], out: &mut [u32], gaps: &mut [u32])
     }
 }
 
-// A list of at most so many references has a smaller array: an array is cleared first, and the largest, 8 KiB of pairs, takes longer than a short list.
+// A list of at most so many references has a smaller array: an array is cleared first, and the largest, 16 KiB of pairs, takes longer than a short list.
+const FEW: usize = 24;
+
 const SHORT: usize = 64;
 
 const MIDDLE: usize = 256;
 
-// More references than this are placed twice, over a memo.
 const MANY: usize = 1024;
+
+// More references than this are placed twice, over a memo.
+const MOST: usize = 2048;
 
 // A memo has a word for each reference up to the last row that a table can have.
 const MEMO: usize = FIRST_DEFINITION as usize + MOST_ROWS;
-
-fn place_short(
-    memory: Memory,
-    table: &[u32],
-    n: u32,
-    references: &[u32],
-    out: &mut [u32],
-    gaps: &mut [u32],
-) -> PlacementAnswer
-    requires { ⌜ (noTable (now table) n ≡ false) × (length (now references) ≤ 64) × (length (now references) ≤ length (now out)) × (length (now references) ≤ length (now gaps)) ⌝ }
-    ensures { λ r. ⌜ Places (memoryOf memory) (now (table .entry)) n (now (references .entry)) (now (out .entry)) (now (gaps .entry)) r (now (out .exit)) (now (gaps .exit)) ⌝ }
-{
-    let mut stage = [0u64; SHORT];
-    place_staged(memory, table, n, references, &mut stage, out, gaps)
-}
-
-fn place_middle(
-    memory: Memory,
-    table: &[u32],
-    n: u32,
-    references: &[u32],
-    out: &mut [u32],
-    gaps: &mut [u32],
-) -> PlacementAnswer
-    requires { ⌜ (noTable (now table) n ≡ false) × (length (now references) ≤ 256) × (length (now references) ≤ length (now out)) × (length (now references) ≤ length (now gaps)) ⌝ }
-    ensures { λ r. ⌜ Places (memoryOf memory) (now (table .entry)) n (now (references .entry)) (now (out .entry)) (now (gaps .entry)) r (now (out .exit)) (now (gaps .exit)) ⌝ }
-{
-    let mut stage = [0u64; MIDDLE];
-    place_staged(memory, table, n, references, &mut stage, out, gaps)
-}
-
-fn place_many(
-    memory: Memory,
-    table: &[u32],
-    n: u32,
-    references: &[u32],
-    out: &mut [u32],
-    gaps: &mut [u32],
-) -> PlacementAnswer
-    requires { ⌜ (noTable (now table) n ≡ false) × (length (now references) ≤ 1024) × (length (now references) ≤ length (now out)) × (length (now references) ≤ length (now gaps)) ⌝ }
-    ensures { λ r. ⌜ Places (memoryOf memory) (now (table .entry)) n (now (references .entry)) (now (out .entry)) (now (gaps .entry)) r (now (out .exit)) (now (gaps .exit)) ⌝ }
-{
-    let mut stage = [0u64; MANY];
-    place_staged(memory, table, n, references, &mut stage, out, gaps)
-}
 
 fn place_long(
     memory: Memory,
@@ -226,14 +185,25 @@ fn place_all(
     requires { ⌜ (noTable (now table) n ≡ false) × (length (now references) ≤ 16384) × (length (now references) ≤ length (now out)) × (length (now references) ≤ length (now gaps)) ⌝ }
     ensures { λ r. ⌜ Places (memoryOf memory) (now (table .entry)) n (now (references .entry)) (now (out .entry)) (now (gaps .entry)) r (now (out .exit)) (now (gaps .exit)) ⌝ }
 {
+    if references.len() <= FEW {
+        let mut stage = [0u64; FEW];
+        return place_staged(memory, table, n, references, &mut stage, out, gaps);
+    }
     if references.len() <= SHORT {
-        return place_short(memory, table, n, references, out, gaps);
+        let mut stage = [0u64; SHORT];
+        return place_staged(memory, table, n, references, &mut stage, out, gaps);
     }
     if references.len() <= MIDDLE {
-        return place_middle(memory, table, n, references, out, gaps);
+        let mut stage = [0u64; MIDDLE];
+        return place_staged(memory, table, n, references, &mut stage, out, gaps);
     }
     if references.len() <= MANY {
-        return place_many(memory, table, n, references, out, gaps);
+        let mut stage = [0u64; MANY];
+        return place_staged(memory, table, n, references, &mut stage, out, gaps);
+    }
+    if references.len() <= MOST {
+        let mut stage = [0u64; MOST];
+        return place_staged(memory, table, n, references, &mut stage, out, gaps);
     }
     place_long(memory, table, n, references, out, gaps)
 }

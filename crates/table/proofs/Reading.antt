@@ -1,23 +1,20 @@
--- A row that the table has is of its cells; one that it has not is of no words, and nothing is put there. The tests of a row, one after
--- another, are its good form.
+-- A row that the table has is of its cells; one that it has not is of no words, and nothing is put there. The two halves of the
+-- tests of a row are its good form.
 use mathlib.Core.Path.{_≡_, refl, ap}
-use mathlib.Core.Bool.{Bool, true, false, _&&_, and-assoc}
+use mathlib.Core.Bool.{true, false, _&&_, and-assoc}
 use mathlib.Core.List.{List, []}
-use mathlib.Core.Option.{Option}
 use Prim.Native.Nat.{ℕ, zero, suc, _^_, _≤_, _<_}
 use native.Mathlib.Omega.{arith}
 use lib.Arith.{digits-div, digits-mod}
-use lib.Dec.{leb}
 use lib.ListN.{length}
 use borrow.Author.Tests.{lt-ltb, le-ltb, ne-eqb}
-use Rattle.canon.specs.Layout.{Both, Layout}
-use Rattle.canon.specs.Reach.{goodReach}
-use Rattle.canon.specs.Row.{word, rowAbi, goodLayout, goodCount, unusedZero, goodAbi, isDiscriminant, isGood}
+use Rattle.canon.specs.Layout.{Both}
+use Rattle.canon.specs.Row.{word, goodAbi, isDiscriminant, isGood}
 use Rattle.canon.specs.Table.{capacity, cell, cellsFrom, rowAt, putFrom}
 use Rattle.canon.specs.Question.{noTable}
 use Rattle.canon.proofs.Cells.{rows-there, cell-of}
 use Rattle.flat_types.specs.Lists.{halves, whole}
-use Rattle.table.specs.Rows.{rowIn, tableWith, rowFlats}
+use Rattle.table.specs.Rows.{rowIn, tableWith, goodFirstWords, goodLaterWords}
 
 pub length-cells : (room : ℕ) (t : List ℕ) (row k n : ℕ) → length (cellsFrom room t row k n) ≡ n
 unfolding cellsFrom
@@ -68,21 +65,6 @@ unfolding isDiscriminant
 discriminant-over d l =
     rw (ne-eqb d 0 (λ e. omega arith), ne-eqb d 1 (λ e. omega arith), ne-eqb d 2 (λ e. omega arith), ne-eqb d 4 (λ e. omega arith))
 
-abbrev pub goodLayouts : Both Layout → Bool
-goodLayouts b = goodLayout (b .in32) && goodLayout (b .in64)
-
-abbrev pub goodTypes : Option ℕ → Both ℕ → Bool
-goodTypes c b = goodCount c && (unusedZero c (b .in32) && unusedZero c (b .in64))
-
-unfoldable pub tested : List ℕ → Bool
-tested r =
-    leb 1 (word r 0)
-    && (leb (word r 0) 10
-    && (goodLayouts (rowAbi r .layouts)
-    && (goodTypes (rowAbi r .flats) (rowFlats r)
-    && (isDiscriminant (word r 8)
-    && goodReach (word r 15)))))
-
-pub tested-good : (r : List ℕ) → isGood r ≡ tested r
-unfolding isGood tested goodAbi
-tested-good r = simp and-assoc
+pub good-halves : (r : List ℕ) → isGood r ≡ goodFirstWords r && goodLaterWords r
+unfolding isGood goodAbi goodFirstWords goodLaterWords
+good-halves r = simp and-assoc

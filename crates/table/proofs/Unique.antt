@@ -35,6 +35,8 @@ use Rattle.table.proofs.reach.Reach.depth.Reads as depth
 use Rattle.table.proofs.reach.Reach.is_borrow.Reads as is-borrow
 use Rattle.table.proofs.reach.Reach.is_good.Reads as is-good
 use Rattle.table.proofs.reach.Reach.join.Reads as join
+use Rattle.table.proofs.read.good_first_words.Reads as good-first-words
+use Rattle.table.proofs.read.good_later_words.Reads as good-later-words
 use Rattle.table.proofs.read.is_good_row.Reads as is-good-row
 use Rattle.table.proofs.read.row_flat.Reads as row-flat
 use Rattle.table.proofs.read.row_info.Reads as row-info
@@ -113,6 +115,12 @@ module _ (κs : Lfts 1) (t : RefT (List ℕ)) (j : DefinitionIndex) where
 
   pub row-reach-one : (r q : Reach) → row-reach.Post κs (t, (j, tt)) r (t, (j, tt)) → row-reach.Post κs (t, (j, tt)) q (t, (j, tt)) → r ≡ q
   row-reach-one r q g h = g ∙ sym h
+
+  pub good-first-words-one : (r q : Bool) → good-first-words.Post κs (t, (j, tt)) r (t, (j, tt)) → good-first-words.Post κs (t, (j, tt)) q (t, (j, tt)) → r ≡ q
+  good-first-words-one r q g h = g ∙ sym h
+
+  pub good-later-words-one : (r q : Bool) → good-later-words.Post κs (t, (j, tt)) r (t, (j, tt)) → good-later-words.Post κs (t, (j, tt)) q (t, (j, tt)) → r ≡ q
+  good-later-words-one r q g h = g ∙ sym h
 
   pub is-good-row-one : (r q : Bool) → is-good-row.Post κs (t, (j, tt)) r (t, (j, tt)) → is-good-row.Post κs (t, (j, tt)) q (t, (j, tt)) → r ≡ q
   is-good-row-one r q g h = g ∙ sym h

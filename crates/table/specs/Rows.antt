@@ -1,13 +1,14 @@
 -- Reading and writing one row of a table, for every index: a row that the table has no room for is of no words, and none are written.
-use mathlib.Core.Bool.{cond}
+use mathlib.Core.Bool.{Bool, cond, _&&_}
 use mathlib.Core.List.{List, []}
 use mathlib.Core.Path.{_≡_}
 use Prim.Native.Nat.{ℕ}
-use lib.Dec.{ltb}
+use lib.Dec.{ltb, leb}
 use lib.ListN.{length}
 use Rattle.canon.specs.Layout.{Memory, Both, within}
 use Rattle.canon.specs.Pack.{Packed}
-use Rattle.canon.specs.Row.{word}
+use Rattle.canon.specs.Reach.{goodReach}
+use Rattle.canon.specs.Row.{word, rowAbi, goodLayout, goodCount, unusedZero, isDiscriminant}
 use Rattle.canon.specs.Table.{capacity, rowAt, putFrom}
 use Rattle.flat_types.specs.Lists.{halves}
 use Rattle.flat_types.specs.declared.both.FlatTypes.{FlatTypes}
@@ -30,3 +31,15 @@ rowPacked m r = record { number = word r 5; types = within m (rowFlats r) }
 pub record RowTypes (f : FlatTypes) (r : List ℕ) : Type 0 where
   pub count : f .count ≡ word r 5
   pub flats : halves (f .words) ≡ rowFlats r
+
+-- The good form in two halves, which the rules of 01 follow (together they are canon's `isGood`, proofs/Reading.good-halves)
+
+-- "kind is 1 to 10; alignments are 1, 2, 4 or 8; each size is a multiple of its alignment"
+unfoldable pub goodFirstWords : List ℕ → Bool
+goodFirstWords r = leb 1 (word r 0) && (leb (word r 0) 10 && (goodLayout (rowAbi r .layouts .in32) && goodLayout (rowAbi r .layouts .in64)))
+
+-- "flat count is 0 to 16 or 255; unused flat bits are zero; word 8 is 0, 1, 2 or 4", and a good reach
+unfoldable pub goodLaterWords : List ℕ → Bool
+goodLaterWords r =
+    (goodCount (rowAbi r .flats) && (unusedZero (rowAbi r .flats) (word r 6) && unusedZero (rowAbi r .flats) (word r 7)))
+    && (isDiscriminant (word r 8) && goodReach (word r 15))

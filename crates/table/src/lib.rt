@@ -24,6 +24,8 @@ pub use plain::plain_info;
 pub use plain::plain_info_by_shifts;
 pub use reach::Deeper;
 pub use reach::Reach;
+pub use read::good_first_words;
+pub use read::good_later_words;
 pub use read::is_good_row;
 pub use read::row_flat;
 pub use read::row_info;

@@ -8,7 +8,7 @@ ghost use Rattle.canon.specs.Row.{word, rowAbi, rowInfo, isDiscriminant, isGood
 ghost use Rattle.types.specs.Means.{memoryOf, layoutMeans, layoutsMeans};
 ghost use Rattle.flat_types.specs.Lists.{words};
 ghost use Rattle.table.specs.Means.{infoMeans};
-ghost use Rattle.table.specs.Rows.{rowIn, RowTypes, rowPacked};
+ghost use Rattle.table.specs.Rows.{rowIn, RowTypes, rowPacked, goodFirstWords, goodLaterWords};
 use crate::cells::capacity;
 use crate::cells::cell;
 use crate::info::DefinitionIndex;
@@ -72,8 +72,9 @@ fn good_rest(table: &[u32], index: DefinitionIndex) -> bool
     row_reach(table, index).is_good()
 }
 
-pub fn is_good_row(table: &[u32], index: DefinitionIndex) -> bool
-    ensures { λ r. ⌜ r ≡ isGood (rowIn (now (table .entry)) (index .0)) ⌝ }
+// Tests words 0 to 4: the kind is 1 to 10, and the layouts are good.
+pub fn good_first_words(table: &[u32], index: DefinitionIndex) -> bool
+    ensures { λ r. ⌜ r ≡ goodFirstWords (rowIn (now (table .entry)) (index .0)) ⌝ }
 {
     let kind = word(table, index, 0);
     if kind < 1 {
@@ -82,10 +83,24 @@ pub fn is_good_row(table: &[u32], index: DefinitionIndex) -> bool
     if kind > 10 {
         return false;
     }
-    if row_layouts(table, index).is_good() {
-        if row_types(table, index).is_good() {
-            return good_rest(table, index);
-        }
+    row_layouts(table, index).is_good()
+}
+
+// Tests words 5 to 8 and 15, the flat types and the rest.
+pub fn good_later_words(table: &[u32], index: DefinitionIndex) -> bool
+    ensures { λ r. ⌜ r ≡ goodLaterWords (rowIn (now (table .entry)) (index .0)) ⌝ }
+{
+    if row_types(table, index).is_good() {
+        return good_rest(table, index);
+    }
+    false
+}
+
+pub fn is_good_row(table: &[u32], index: DefinitionIndex) -> bool
+    ensures { λ r. ⌜ r ≡ isGood (rowIn (now (table .entry)) (index .0)) ⌝ }
+{
+    if good_first_words(table, index) {
+        return good_later_words(table, index);
     }
     false
 }

@@ -3,7 +3,7 @@
 use mathlib.Core.Path.{_≡_, refl, subst⁻¹, _∙_}
 use mathlib.Core.Bool.{Bool, true, false, cond}
 use Prim.Native.Nat.{ℕ, zero, suc, _+_, _-_, _*_, _/_, _%_, _^_, _≤_, _<_, _∣_}
-use native.Mathlib.Nat.{div-add-mod, sub-zero, mod-self, mod-eq-of-lt, div-mul-le-self, div-mul-cancel, lt-div-mul-add, mod-lt, dvd-mul-left, dvd-of-mod-eq-zero, dvd-trans, le-refl, le-antisymm, lt-of-le-of-lt, le-of-lt, mul-le-mul-left, mul-le-mul-right, mul-lt-mul-of-pos-right}
+use native.Mathlib.Nat.{div-add-mod, div-mul-le-self, div-mul-cancel, lt-div-mul-add, mod-lt, dvd-mul-left, dvd-of-mod-eq-zero, dvd-trans, le-refl, le-antisymm, lt-of-le-of-lt, le-of-lt, mul-le-mul-left, mul-le-mul-right, mul-lt-mul-of-pos-right}
 use native.Mathlib.Decide.{decLe}
 use native.Mathlib.Omega.{arith}
 use lib.Dec.{eqb}
@@ -160,21 +160,16 @@ one-unit-more x u h e =
     below : (x + (u - 1)) / u ≤ x / u → roundUp x u ≤ x / u * u
     below l = mul-le-mul-right u l
 
--- What a rest lacks to a whole unit fills it up: these bytes are skipped
-pub filled : (x u : ℕ) → 0 < u → x / u * u + (x % u + (u - x % u) % u) ≡ roundUp x u
-filled x u h =
-    elim (decLe (x % u) 0) [
-      | yes l ↦
-          let r : x % u ≡ 0 = omega arith in
-          let none : (u - x % u) % u ≡ 0 = rw (r, sub-zero u) (mod-self u) in
-          rw none (omega (arith, whole-units x u h r))
-      | no l ↦
-          let lacks : (u - x % u) % u ≡ u - x % u = mod-eq-of-lt (omega arith) in
-          rw lacks (omega (arith, mod-lt x h, one-unit-more x u h (λ e. omega arith)))
-    ]
+-- What a rest lacks to a whole unit is skipped, and nothing where there is none
+pub none-skipped : (x u : ℕ) → 0 < u → x % u ≡ 0 → 0 ≡ roundUp x u - x
+none-skipped x u h e = omega (arith, whole-units x u h e, div-add-mod x u)
 
-pub skipped-is : (x u : ℕ) → 0 < u → (u - x % u) % u ≡ roundUp x u - x
-skipped-is x u h = omega (arith, filled x u h, div-add-mod x u)
+pub lack-skipped : (x u : ℕ) → 0 < u → (x % u ≡ 0 → ⊥) → u - x % u ≡ roundUp x u - x
+lack-skipped x u h e = omega (arith, mod-lt x h, one-unit-more x u h e, div-add-mod x u)
+
+-- with it the whole units and the rest are filled up
+pub filled : (x u s : ℕ) → 0 < u → s ≡ roundUp x u - x → x / u * u + (x % u + s) ≡ roundUp x u
+filled x u s h e = omega (arith, le-roundUp x u h, div-add-mod x u)
 
 -- a product of two numbers that fit is below the product of their bounds
 pub product-lt : (j k : ℕ) {a b : ℕ} → a < 2 ^ j → b < 2 ^ k → a * b < 2 ^ (j + k)

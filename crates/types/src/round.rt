@@ -50,7 +50,7 @@ pub(crate) fn round_up(a: u64, b: u32) -> RoundedUp
     let unit = unit_of(b);
     let quotient = a / unit;
     let rest = a % unit;
-    let skipped = (unit - rest) % unit;
+    let skipped = if rest == 0 { 0 } else { unit - rest };
     RoundedUp {
         value: quotient * unit + (rest + skipped),
         skipped: skipped as u32,

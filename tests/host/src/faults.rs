@@ -83,7 +83,7 @@ pub enum Fault {
     GapAtTheEnd,
     /// The gaps of 257 to 1,024 members are lost from the 257th on.
     MiddleGaps,
-    /// The gaps of more than 1,024 members are lost from there on.
+    /// The gaps of more than 2,048 members are lost from there on.
     LateGaps,
     /// The seventeenth gap is lost over bytes.
     ByteGap,

@@ -292,12 +292,14 @@ fn refusals_in_order(run: &mut Run, subject: &mut Subject) {
 }
 
 /// Around each number of references where the port may change its way.
-const LENGTHS: [usize; 16] = [
+const LENGTHS: [usize; 21] = [
     1,
     2,
     15,
     16,
     17,
+    24,
+    25,
     63,
     64,
     65,
@@ -307,6 +309,9 @@ const LENGTHS: [usize; 16] = [
     1_023,
     1_024,
     1_025,
+    2_047,
+    2_048,
+    2_049,
     MOST_WORDS - 1,
     MOST_WORDS,
 ];

@@ -184,18 +184,21 @@ fn few_references(run: &mut Run) {
 }
 
 /// Around each number of references where the port may change its way.
-const LENGTHS: [usize; 14] = [
+const LENGTHS: [usize; 17] = [
     1,
     2,
     15,
     16,
     17,
+    24,
+    25,
     64,
     65,
     256,
     257,
     1_024,
     1_025,
+    2_048,
     2_049,
     MOST_WORDS - 1,
     MOST_WORDS,

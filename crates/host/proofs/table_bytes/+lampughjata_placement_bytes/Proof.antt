@@ -18,8 +18,9 @@ use borrow.Fn.PlainCycle.{Measures, is, falls, and}
 use Rattle.host.proofs.table_bytes.lampughjata_placement_bytes.Reads as lampughjata-placement-bytes
 use Rattle.host.proofs.table_bytes.lampughjata_placement_bytes.Kinds as lampughjata-placement-bytes-kinds
 use Rattle.host.proofs.table_bytes.+lampughjata_placement_bytes.Lts-lampughjata_placement_bytes as lts
-use Rattle.host.proofs.table_bytes.place_whole.Reads as place-whole
 use Rattle.host.proofs.table_bytes.place_picked.Reads as place-picked
+use Rattle.host.proofs.table_bytes.place_medium.Reads as place-medium
+use Rattle.host.proofs.table_bytes.place_long.Reads as place-long
 use Rattle.host.proofs.table_bytes.+lampughjata_placement_bytes.{statement}
 use Rattle.host.proofs.table_bytes.+lampughjata_placement_bytes.Tie.{close}
 
@@ -48,10 +49,12 @@ abbrev calls : ℕ → lts.Claims
 calls t = (
   below t,
   lampughjata-placement-bytes.Post,
-  place-whole.Asked,
-  place-whole.Learnt,
   place-picked.Asked,
   place-picked.Learnt,
+  place-medium.Asked,
+  place-medium.Learnt,
+  place-long.Asked,
+  place-long.Learnt,
 )
 
 module _ (t : ℕ) where
@@ -86,8 +89,8 @@ module _ (t : ℕ) where
         ),
       )
 
-  place-whole-requires : lts.Need-place-whole-requires (calls t) (at t) lampughjata-placement-bytes.Post
-  place-whole-requires c κs = search needs
+  place-picked-requires : lts.Need-place-picked-requires (calls t) (at t) lampughjata-placement-bytes.Post
+  place-picked-requires c κs = search needs
 
   same-length-3 : lts.Need-same-length-3 (calls t) (at t) lampughjata-placement-bytes.Post
   same-length-3 c = search needs
@@ -96,10 +99,10 @@ module _ (t : ℕ) where
   same-length-4 c = search needs
 
   returns-2 : lts.Need-returns-2 (calls t) (at t) lampughjata-placement-bytes.Post
-  returns-2 c = c .before .before .before .before .place-whole .ensures
+  returns-2 c = let placed = c .before .before .before .before .place-picked .ensures in (placed .0, (placed .1, placed .2))
 
-  place-picked-requires : lts.Need-place-picked-requires (calls t) (at t) lampughjata-placement-bytes.Post
-  place-picked-requires c κs = search needs
+  place-medium-requires : lts.Need-place-medium-requires (calls t) (at t) lampughjata-placement-bytes.Post
+  place-medium-requires c κs = search needs
 
   same-length-5 : lts.Need-same-length-5 (calls t) (at t) lampughjata-placement-bytes.Post
   same-length-5 c = search needs
@@ -108,7 +111,19 @@ module _ (t : ℕ) where
   same-length-6 c = search needs
 
   returns-3 : lts.Need-returns-3 (calls t) (at t) lampughjata-placement-bytes.Post
-  returns-3 c = c .before .before .before .before .place-picked .ensures
+  returns-3 c = let placed = c .before .before .before .before .place-medium .ensures in (placed .0, (placed .1, placed .2))
+
+  place-long-requires : lts.Need-place-long-requires (calls t) (at t) lampughjata-placement-bytes.Post
+  place-long-requires c κs = search needs
+
+  same-length-7 : lts.Need-same-length-7 (calls t) (at t) lampughjata-placement-bytes.Post
+  same-length-7 c = search needs
+
+  same-length-8 : lts.Need-same-length-8 (calls t) (at t) lampughjata-placement-bytes.Post
+  same-length-8 c = search needs
+
+  returns-4 : lts.Need-returns-4 (calls t) (at t) lampughjata-placement-bytes.Post
+  returns-4 c = let placed = c .before .before .before .before .place-long .ensures in (placed .0, (placed .1, placed .2))
 
 pub +lampughjata-placement-bytes-spec : {M : Type 1} → statement M
 +lampughjata-placement-bytes-spec =
@@ -120,11 +135,15 @@ pub +lampughjata-placement-bytes-spec : {M : Type 1} → statement M
     (same-length t)
     (same-length-2 t)
     (returns t)
-    (place-whole-requires t)
+    (place-picked-requires t)
     (same-length-3 t)
     (same-length-4 t)
     (returns-2 t)
-    (place-picked-requires t)
+    (place-medium-requires t)
     (same-length-5 t)
     (same-length-6 t)
     (returns-3 t)
+    (place-long-requires t)
+    (same-length-7 t)
+    (same-length-8 t)
+    (returns-4 t)

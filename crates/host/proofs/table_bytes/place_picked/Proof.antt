@@ -38,10 +38,8 @@ returns c =
     let none = placing-missing m t (a .rows) ws room few missing in
     let nothing = padding-missing m t (a .rows) ws room few missing in (
       rw none (c .refused .ensures),
-      (
-        rw none (sym (put-same (now (a .offsets)) (λ i. c .before .before .before .before .slice-known .given i .fits))),
-        rw nothing (sym (put-same (now (a .gaps)) (λ i. c .before .before .before .slice-known2 .given i .fits))),
-      ),
+      rw none (sym (put-same (now (a .offsets)) (λ i. c .before .before .before .before .slice-known .given i .fits))),
+      rw nothing (sym (put-same (now (a .gaps)) (λ i. c .before .before .before .slice-known2 .given i .fits))),
     )
 
 slice-aggregate-pick-rows : tie.Need-slice-aggregate-pick-rows
@@ -129,17 +127,15 @@ returns-2 c =
     let offsets = offsets-padded m t (a .rows) ws shared os in
     let done = into .ensures .1 in (
       into .ensures .0 ∙ rw (out, gaps, room) (call-alike _ t 16 (a .rows) (rw (picks .1 .1 .size) room-16) there _ _ ws (picks .1 .0) few m shared),
-      (
-        done .1 .1 .0
-            ∙ front-put 16 _ (now (a .offsets)) (λ i. lent .before .slice-known .given i .fits) (done .0 .1 ∙ ap length out)
-            (lent-alike _ t 16 (a .rows) (rw (picks .1 .1 .size) room-16) there _ _ ws (picks .1 .0) few offsetsOf m shared os _
-            (offsets-counted m t (a .rows) ws shared) (done .0 .0 ∙ rw (out, gaps, room) (offsets-padded _ _ _ _ _ _))
-            ∙ sym offsets),
-        done .1 .1 .1
-            ∙ front-put 16 _ (now (a .gaps)) (λ i. lent .slice-known2 .given i .fits) (done .1 .0 .1 ∙ ap length gaps)
-            (lent-alike _ t 16 (a .rows) (rw (picks .1 .1 .size) room-16) there _ _ ws (picks .1 .0) few gapsOf m shared gs _
-            (gaps-counted m t (a .rows) ws shared) (done .1 .0 .0 ∙ rw (out, gaps, room))),
-      ),
+      done .1 .1 .0
+          ∙ front-put 16 _ (now (a .offsets)) (λ i. lent .before .slice-known .given i .fits) (done .0 .1 ∙ ap length out)
+          (lent-alike _ t 16 (a .rows) (rw (picks .1 .1 .size) room-16) there _ _ ws (picks .1 .0) few offsetsOf m shared os _
+          (offsets-counted m t (a .rows) ws shared) (done .0 .0 ∙ rw (out, gaps, room) (offsets-padded _ _ _ _ _ _))
+          ∙ sym offsets),
+      done .1 .1 .1
+          ∙ front-put 16 _ (now (a .gaps)) (λ i. lent .slice-known2 .given i .fits) (done .1 .0 .1 ∙ ap length gaps)
+          (lent-alike _ t 16 (a .rows) (rw (picks .1 .1 .size) room-16) there _ _ ws (picks .1 .0) few gapsOf m shared gs _
+          (gaps-counted m t (a .rows) ws shared) (done .1 .0 .0 ∙ rw (out, gaps, room))),
     )
 
 pub place-picked-spec : {M : Type 1} → statement M

@@ -1,4 +1,4 @@
--- Plain, or a row of good form.
+-- A word below 64 names no row.
 use borrow.Author.Tests.{lt-leb}
 use Rattle.canon.specs.Question.{read}
 use borrow.Author.Needs.{needs}
@@ -22,23 +22,11 @@ returns-2 : tie.Need-returns-2
 unfolding read
 returns-2 c = simp (lt-leb _ _ (c .before .before .before .if1 .taken), ← c .before .before .plain-info .ensures, c .enum-told .given .1)
 
-row-named-requires : tie.Need-row-named-requires
-row-named-requires c κs = search needs
-
-enum-known-index : tie.Need-enum-known-index
-enum-known-index c = search needs
-
-row-info-requires : tie.Need-row-info-requires
-row-info-requires c κs = search needs
-
-enum-known-why : tie.Need-enum-known-why
-enum-known-why c = search needs
+read-row-requires : tie.Need-read-row-requires
+read-row-requires c κs = search needs
 
 returns-3 : tie.Need-returns-3
-returns-3 c = rw (← c .before .before .before .before .row-named .ensures, c .before .before .index .given .1, c .row-info .ensures)
-
-returns-4 : tie.Need-returns-4
-returns-4 c = rw (← c .before .before .before .row-named .ensures, c .before .why .given .1)
+returns-3 c = c .read-row .ensures
 
 pub read-spec : {M : Type 1} → statement M
 read-spec =
@@ -49,9 +37,5 @@ read-spec =
     enum-told
     returns
     returns-2
-    row-named-requires
-    enum-known-index
-    row-info-requires
-    enum-known-why
-    returns-3
-    returns-4)
+    read-row-requires
+    returns-3)

@@ -1,8 +1,7 @@
--- The table has the row that is named (`row-is`); its test is that of the good form.
+-- The row that is named (`read-named`); its test is that of the good form.
 use mathlib.Core.Path.{sym, _∙_}
-use borrow.Author.Tests.{lt-ltb, le-ltb, le-leb}
-use Rattle.canon.specs.Question.{readRow, read}
-use Rattle.table.proofs.Reading.{row-is}
+use Rattle.canon.specs.Question.{readRow}
+use Rattle.questions.proofs.References.{read-named, read-past}
 use borrow.Author.Needs.{needs}
 use Rattle.questions.proofs.read.row_named.Statement.{statement}
 use Rattle.questions.proofs.read.row_named.Tie as tie
@@ -14,20 +13,19 @@ is-good-row-requires : tie.Need-is-good-row-requires
 is-good-row-requires c κs = search needs
 
 returns : tie.Need-returns
-unfolding read readRow
+unfolding readRow
 returns c = let s = c .before .before .before .before .before in
     let good = sym (c .before .is-good-row .ensures) ∙ c .if2 .taken in
-    rw (le-leb 64 _ (s .pre .1), lt-ltb _ _ (c .before .before .if1 .taken), ← row-is _ _ _ (s .pre .0) (c .before .before .if1 .taken), good)
+    rw (read-named _ _ _ (s .pre .1) (s .pre .0) (c .before .before .if1 .taken), good)
 
 returns-2 : tie.Need-returns-2
-unfolding read readRow
+unfolding readRow
 returns-2 c = let s = c .before .before .before .before .before in
     let bad = sym (c .before .is-good-row .ensures) ∙ c .if2 .left in
-    rw (le-leb 64 _ (s .pre .1), lt-ltb _ _ (c .before .before .if1 .taken), ← row-is _ _ _ (s .pre .0) (c .before .before .if1 .taken), bad)
+    rw (read-named _ _ _ (s .pre .1) (s .pre .0) (c .before .before .if1 .taken), bad)
 
 returns-3 : tie.Need-returns-3
-unfolding read
-returns-3 c = rw (le-leb 64 _ (c .before .before .before .pre .1), le-ltb _ _ (c .if1 .left))
+returns-3 c = rw (read-past _ _ _ (c .before .before .before .pre .1) (c .if1 .left))
 
 pub row-named-spec : {M : Type 1} → statement M
 row-named-spec = tie.close (tie.spec sub-t5 is-good-row-requires returns returns-2 returns-3)
