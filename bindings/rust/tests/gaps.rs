@@ -51,12 +51,12 @@ fn every_three_members_add_up() {
     }
 }
 
-/// Around 64, 256 and 1,024 members, where the port changes its way, and up to the most.
+/// Around 24, 64, 256, 1,024 and 2,048 members, where the port changes its way, and up to the most.
 #[test]
 fn long_placements_add_up() {
     let (table, types) = types();
     for count in [
-        63, 64, 65, 255, 256, 257, 1_023, 1_024, 1_025, 16_383, 16_384,
+        24, 25, 63, 64, 65, 255, 256, 257, 1_023, 1_024, 1_025, 2_047, 2_048, 2_049, 16_383, 16_384,
     ] {
         let members: Vec<_> = types.iter().copied().cycle().take(count).collect();
         for memory in MEMORIES {

@@ -179,11 +179,13 @@ fn placements_read_each_definition_each_time() {
     }
 }
 
-/// Around 64, 256 and 1,024 members, where the port changes its way, and up to the most.
+/// Around 24, 64, 256, 1,024 and 2,048 members, where the port changes its way, and up to the most.
 #[test]
 fn long_placements_read_as_many() {
     let (table, [flags, wide]) = table_of_two();
-    for count in [64, 65, 256, 257, 1_024, 1_025, 16_383, 16_384] {
+    for count in [
+        24, 25, 64, 65, 256, 257, 1_024, 1_025, 2_048, 2_049, 16_383, 16_384,
+    ] {
         for pattern in [&[wide][..], &[wide, BYTE, flags], &[BYTE, wide]] {
             let members: Vec<_> = pattern.iter().copied().cycle().take(count).collect();
             let scalars = members.iter().filter(|member| **member == BYTE).count();

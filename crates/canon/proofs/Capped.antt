@@ -1,5 +1,6 @@
 -- A table, a buffer or a list that is longer than any call can use answers as its first words do: no cell and no offset stands beyond the word
--- 16,384, and one reference more than 16,384 is too many already. Nor can a build use more rows than one for two words.
+-- 16,384, and one reference more than 16,384 is too many already. A shorter list needs no more words than it has, nor do its buffers. Nor can a build
+-- use more rows than one for two words.
 use mathlib.Core.Path.{_≡_, refl, sym, ap, ap₂, _∙_, fun-ext}
 use mathlib.Core.Bool.{Bool, true, false, cond, _||_}
 use mathlib.Core.List.{List, [], _∷_, _++_, map, append-assoc}

@@ -69,9 +69,10 @@ question-cut q t n vs ws =
 pub room-first : (c : ℕ) (out gs : List ℕ) → roomOf (take c out) (take c gs) ≡ min c (roomOf out gs)
 room-first c out gs = rw (length-take c out, length-take c gs) (omega arith)
 
-module _ (c : ℕ) (ws : List ℕ) (enough : Enough c ws) (m : Memory) (t : List ℕ) (n room : ℕ) where
-  pub call-first : placementCall m (take 16384 t) n (take c ws) (min c room) ≡ placementCall m t n ws room
-  call-first = rw (placement-first c ws enough m t n room, placement-reads-first c ws enough m t n room, after-first c ws enough m t n room)
+pub call-first :
+    (c : ℕ) (ws : List ℕ) → Enough c ws → (m : Memory) (t : List ℕ) (n room : ℕ) →
+    placementCall m (take 16384 t) n (take c ws) (min c room) ≡ placementCall m t n ws room
+call-first c ws enough m t n room = rw (placement-first c ws enough m t n room, placement-reads-first c ws enough m t n room, after-first c ws enough m t n room)
 
 pub call-cut : (m : Memory) (t : List ℕ) (n : ℕ) (ws : List ℕ) (room : ℕ) → placementCall m (take 16384 t) n ws room ≡ placementCall m t n ws room
 call-cut m t n ws room =

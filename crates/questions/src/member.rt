@@ -86,7 +86,7 @@ pub(crate) fn read_member(
     }
 }
 
-// Tests the row in two halves too, by itself: a second caller would take row_member out of that loop.
+// Tests the row in two halves too, but by itself: a second caller would take row_member out of the loop of fill.
 fn size_align_of_row(memory: Memory, table: &[u32], n: u32, reference: u32) -> LayoutAnswer
     requires { ⌜ (noTable (now table) n ≡ false) × (64 ≤ reference) ⌝ }
     ensures { λ r. ⌜ layoutAnswerMeans r ≡ atPosition 0 (memberLayout (memoryOf memory) (now (table .entry)) n reference) ⌝ }

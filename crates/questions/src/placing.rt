@@ -174,6 +174,7 @@ fn place_long(
     }
 }
 
+// Each length has a stage of its own. The compiler puts them all into one frame, also from functions of their own.
 fn place_all(
     memory: Memory,
     table: &[u32],

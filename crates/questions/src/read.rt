@@ -1,5 +1,5 @@
-// The tests before any reference is read, and the test of a reference to a definition. What is then read of a row is the question's own, and
-// what reads in a loop has one caller, so that the compiler puts it there.
+// The tests before any reference is read, and the test that lists make of a reference to a definition: placements, size_align and the type question make
+// their own. What reads in a loop has one caller, so that the compiler puts it there.
 ghost use mathlib.Core.Path.{_≡_};
 ghost use mathlib.Core.Bool.{false};
 ghost use Prim.Native.Nat.{_≤_};

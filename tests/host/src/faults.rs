@@ -81,7 +81,7 @@ pub enum Fault {
     GapOfEmpty,
     /// The gap after the last member is written behind the others.
     GapAtTheEnd,
-    /// The gaps of 257 to 1,024 members are lost from the 257th on.
+    /// The gaps of 257 to 2,048 members are lost from the 257th on.
     MiddleGaps,
     /// The gaps of more than 2,048 members are lost from there on.
     LateGaps,

@@ -46,7 +46,7 @@ impl Fault {
             }
             Fault::GapOfEmpty => hand_on_empty(call, gaps),
             Fault::GapAtTheEnd if !rest.is_empty() => rest[0] = after,
-            Fault::MiddleGaps if (257..=1_024).contains(&members) => gaps[256..].fill(0),
+            Fault::MiddleGaps if (257..=2_048).contains(&members) => gaps[256..].fill(0),
             Fault::LateGaps if members > 2_048 => gaps[2_048..].fill(0),
             Fault::ByteGap if members == 17 && call.cell == Cell::Byte => gaps[16] = 0,
             _ => return,

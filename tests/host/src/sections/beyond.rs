@@ -1,6 +1,6 @@
-//! Tables, lists and buffers longer than a call over bytes looks at, which is 16,384 words of a table or a
-//! buffer and 16,385 references: it must answer as if it had looked at all. Each call is made over bytes
-//! too.
+//! Tables, lists and buffers longer than a call over bytes looks at, which is 16,384 words of a table, 16,385
+//! references, and of a buffer as many words as there is room to decode references (16, 1,024 or 16,385): it must
+//! answer as if it had looked at all. Each call is made over bytes too.
 use super::{questions, tables};
 use crate::compare::{Run, Subject};
 use crate::generate;
@@ -105,7 +105,18 @@ fn buffers(run: &mut Run) {
     let mut built = run.description(&[1, 2, 2, 12, 10, 2, 1 << 18]);
     let subject = &mut built.subject;
     for room in LENGTHS {
-        for count in [0, 1, 9, MOST_WORDS - 1, MOST_WORDS, MOST_WORDS + 1, room] {
+        for count in [
+            0,
+            1,
+            9,
+            17,
+            1_024,
+            1_025,
+            MOST_WORDS - 1,
+            MOST_WORDS,
+            MOST_WORDS + 1,
+            room,
+        ] {
             let other = run
                 .random
                 .pick(&[count, LENGTHS[0], LENGTHS[2], LENGTHS[7]]);
