@@ -3,6 +3,7 @@ use crate::inputs::{SMALL, SMALL_REFERENCES};
 use crate::port::{bytes, bytes_of, rows, words};
 use crate::report::{Aim, Group, Report, Timed};
 use crate::table::ROW;
+use crate::tested::Way;
 use crate::timing::Contender;
 use std::hint::black_box;
 
@@ -27,10 +28,11 @@ pub fn run(report: &mut Report) {
     let over_bytes = || bytes::size_align(&table_bytes, ROWS, black_box(REFERENCE));
     time(report, "size_align, 3 rows", over_words, over_bytes);
 
-    let over_words = || words::flatten(&table, ROWS, black_box(&references));
-    let over_bytes = || bytes::flatten(&table_bytes, ROWS, black_box(&list));
+    let over_words = || words::flatten(&table, ROWS, 16, black_box(&references));
+    let over_bytes = || bytes::flatten(&table_bytes, ROWS, 16, black_box(&list));
     beside(report, "flatten of 8, 3 rows", 3.0, over_words, over_bytes);
 
+    functype(report, &table, &table_bytes);
     placement(report, &table, &table_bytes);
 
     let description = bytes_of(&SMALL);
@@ -45,6 +47,22 @@ pub fn run(report: &mut Report) {
         over_bytes,
     );
     assert_eq!(built_bytes, bytes_of(&built), "the same table");
+}
+
+/// The parameters of a sync lower whose result is the record.
+fn functype(report: &mut Report, table: &[u32], table_bytes: &[u8]) {
+    let (params, results) = (SMALL_REFERENCES, [REFERENCE]);
+    let (param_bytes, result_bytes) = (bytes_of(&params), bytes_of(&results));
+    let over_words = || {
+        let params = black_box(&params);
+        words::functype(Way::SYNC_LOWER, table, ROWS, params, &results, 0)
+    };
+    let over_bytes = || {
+        let params = black_box(&param_bytes);
+        bytes::functype(Way::SYNC_LOWER, table_bytes, ROWS, params, &result_bytes, 0)
+    };
+    let what = "functype, 8 parameters and 1 result, 3 rows";
+    beside(report, what, 3.0, over_words, over_bytes);
 }
 
 fn placement(report: &mut Report, table: &[u32], table_bytes: &[u8]) {

@@ -1,15 +1,16 @@
 //! The port's calls that are timed, over words and over bytes, by the declarations of the Rust crate.
-use crate::tested::Placed;
+use crate::tested::{List, Placed};
 
 #[path = "../../bindings/rust/src/raw.rs"]
 #[allow(dead_code)]
 mod raw;
 
-/// The calls over one unit: in the 32-bit memory, at maximum 16.
+/// The calls over one unit, in the 32-bit memory.
 macro_rules! calls_over {
     ($unit:ty, $calls:ident) => {
         pub mod $calls {
             use super::raw::$calls as port;
+            use crate::tested::Way;
 
             // SAFETY, for all of these: each pointer comes from a slice of the length beside it, lent for
             // the call alone, and a mutable one is lent to nobody else.
@@ -49,10 +50,37 @@ macro_rules! calls_over {
                 }
             }
 
-            pub fn flatten(table: &[$unit], rows: u32, references: &[$unit]) -> u64 {
+            pub fn flatten(table: &[$unit], rows: u32, max: u32, references: &[$unit]) -> u64 {
                 let (table, table_len) = (table.as_ptr(), table.len());
                 let (list, list_len) = (references.as_ptr(), references.len());
-                unsafe { port::flatten(0, 16, table, table_len, rows, list, list_len) }
+                unsafe { port::flatten(0, max, table, table_len, rows, list, list_len) }
+            }
+
+            /// Of k = 0 the parameters, of 1 the results.
+            pub fn functype(
+                way: Way,
+                table: &[$unit],
+                rows: u32,
+                params: &[$unit],
+                results: &[$unit],
+                k: u32,
+            ) -> u64 {
+                unsafe {
+                    port::functype(
+                        0,
+                        way.asynchronous.into(),
+                        way.lower.into(),
+                        way.callback.into(),
+                        table.as_ptr(),
+                        table.len(),
+                        rows,
+                        params.as_ptr(),
+                        params.len(),
+                        results.as_ptr(),
+                        results.len(),
+                        k,
+                    )
+                }
             }
 
             /// The size in the 32-bit memory.
@@ -94,7 +122,7 @@ pub fn placed(Placed { size, align, after }: Placed, references: &[u32]) -> u64 
     layout((size, align)) | u64::from(after) << 36 | (definitions.count() as u64) << 40
 }
 
-/// The answer of a flatten: the types in bits 0 to 33, their count in bits 40 to 47.
-pub fn list(packed: u64, count: u32) -> u64 {
+/// The answer of a flatten, or of a signature's list: the types in bits 0 to 33, their count in bits 40 to 47.
+pub fn list(List { packed, count }: List) -> u64 {
     packed | u64::from(count) << 40
 }

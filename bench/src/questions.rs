@@ -1,6 +1,6 @@
 //! Questions: the port beside the original, and beside Rust that makes the same tests.
 use crate::report::{Aim, Group, Report};
-use crate::tested::Placed;
+use crate::tested::{List, Placed, Signature, Way};
 use crate::timing::Contender;
 use crate::{builds, inputs, port, tested};
 use oracle::Original;
@@ -23,6 +23,7 @@ pub fn run(report: &mut Report) {
         placement(report, many, least);
     }
     flatten(report);
+    functype(report);
     size_align(report);
 }
 
@@ -110,19 +111,22 @@ fn placement(report: &mut Report, many: usize, least: f64) {
     report.aim(ahead, timed.ratio(0, 2), Aim::AtLeast(least));
 }
 
+/// The original's list of references that travel flat.
+fn flat_by_original(original: &mut Original, references: &[u32]) -> (Vec<InterfaceType>, List) {
+    let types = types_of(original, references);
+    let flat = original.flatten(false, 16, &types).expect("a list");
+    let (packed, count) = (flat.packed, flat.count);
+    (types, List { packed, count })
+}
+
 fn flatten(report: &mut Report) {
     let (table, mut original) = table();
     let references = inputs::flat_references();
-    let types = types_of(&mut original, &references);
-    let expected = original.flatten(false, 16, &types).expect("a list");
+    let (types, expected) = flat_by_original(&mut original, &references);
     let flat = tested::flatten(&table, ROWS, 16, &references);
-    assert_eq!(flat, Some(Some((expected.packed, expected.count))));
-    let answer = port::words::flatten(&table, ROWS, &references);
-    assert_eq!(
-        answer,
-        port::list(expected.packed, expected.count),
-        "the port's list"
-    );
+    assert_eq!(flat, Some(Some(expected)));
+    let answer = port::words::flatten(&table, ROWS, 16, &references);
+    assert_eq!(answer, port::list(expected), "the port's list");
 
     let contenders = vec![
         Contender::new("(a) the original", || {
@@ -132,13 +136,67 @@ fn flatten(report: &mut Report) {
             black_box(tested::flatten(&table, ROWS, 16, black_box(&references)));
         }),
         Contender::new("the port", || {
-            black_box(port::words::flatten(&table, ROWS, black_box(&references)));
+            let references = black_box(&references);
+            black_box(port::words::flatten(&table, ROWS, 16, references));
         }),
     ];
     let what = "flatten of 6 to 16 types, 1,000 rows".to_string();
     let timed = report.time(Group { what, contenders });
     let ahead = "flatten of 6: the original over the port";
     report.aim(ahead, timed.ratio(0, 2), Aim::AtLeast(1.8));
+}
+
+/// Both lists of Rust's signature must be the port's.
+fn check_ways(by_rust: impl Fn(Way) -> Option<Signature>, by_port: impl Fn(Way, u32) -> u64) {
+    for way in Way::all() {
+        let Signature { params, results } = by_rust(way).expect("a signature");
+        let lists = [params, results].map(port::list);
+        assert_eq!([0, 1].map(|k| by_port(way, k)), lists, "{way:?}");
+    }
+}
+
+/// A sync lower with sixteen flat parameters and a large result, for which a pointer is the seventeenth: no list is longer.
+/// The original has no such function. So Rust is held to the port in every way, and the timed list to the original's of the
+/// parameters.
+fn functype(report: &mut Report) {
+    let (table, mut original) = table();
+    let params = inputs::flat_references();
+    // One of the two records.
+    let results = [params[0]];
+    let by_rust =
+        |way| tested::functype(way, &table, ROWS, black_box(&params), black_box(&results));
+    let by_port = |way, k| {
+        let (params, results) = (black_box(&params), black_box(&results));
+        port::words::functype(way, &table, ROWS, params, results, k)
+    };
+    check_ways(by_rust, by_port);
+    let (_, flat) = flat_by_original(&mut original, &params);
+    let expected = port::list(flat.with_pointer());
+    let answer = by_port(Way::SYNC_LOWER, 0);
+    assert_eq!(answer, expected, "the port's parameters");
+
+    let contenders = vec![
+        Contender::new("(t) Rust with the same tests", || {
+            black_box(by_rust(black_box(Way::SYNC_LOWER)));
+        }),
+        Contender::new("(2) two flattens by the port", || {
+            let (params, results) = (black_box(&params), black_box(&results));
+            black_box(port::words::flatten(&table, ROWS, 16, params));
+            black_box(port::words::flatten(&table, ROWS, 1, results));
+        }),
+        Contender::new("the port", || {
+            black_box(by_port(black_box(Way::SYNC_LOWER), 0));
+        }),
+    ];
+    let what = "functype, 6 parameters and 1 result, 1,000 rows".to_string();
+    let timed = report.time(Group { what, contenders });
+    for (place, whose, most) in [
+        (0, "Rust with the same tests", 1.25),
+        (1, "two flattens", 1.1),
+    ] {
+        let over = format!("functype: the port over {whose}");
+        report.aim(over, timed.ratio(2, place), Aim::AtMost(most));
+    }
 }
 
 /// Reference by reference, in the 32-bit memory.

@@ -153,21 +153,136 @@ fn round_up(place: u64, align: u32) -> u64 {
     (place + low) & !low
 }
 
-/// The packed types in the 32-bit memory and their count; None where refused, `Some(None)` for memory.
-pub fn flatten(table: &[u32], n: u32, max: u32, references: &[u32]) -> Option<Option<(u64, u32)>> {
-    if references.len() > 16_384 || n as usize > capacity(table.len()) || max > 16 {
-        return None;
+/// Packed types in the 32-bit memory, and their count.
+#[derive(Clone, Copy, Debug, PartialEq, Eq)]
+pub struct List {
+    pub packed: u64,
+    pub count: u32,
+}
+
+impl List {
+    const EMPTY: List = List {
+        packed: 0,
+        count: 0,
+    };
+    /// A pointer, or the status of an async call.
+    const I32: List = List {
+        packed: 0,
+        count: 1,
+    };
+
+    /// With one more I32, whose bits are zero.
+    pub fn with_pointer(self) -> List {
+        List {
+            count: self.count + 1,
+            ..self
+        }
     }
-    let (mut packed, mut count, mut fits) = (0_u64, 0, true);
+}
+
+/// The list of references that were not tested yet; None where one is refused, `Some(None)` for memory.
+///
+/// # Safety
+/// The table has room for n rows.
+#[inline]
+unsafe fn list(table: &[u32], n: u32, max: u32, references: &[u32]) -> Option<Option<List>> {
+    let (mut list, mut fits) = (List::EMPTY, true);
     for reference in references {
-        // SAFETY: there is room for n rows.
+        // SAFETY: by this function's own.
         let part = unsafe { read(*reference, table, n) }?;
-        if fits && part.flat <= max - count {
-            packed |= u64::from(part.types) << (2 * count);
-            count += part.flat;
+        if fits && part.flat <= max - list.count {
+            list.packed |= u64::from(part.types) << (2 * list.count);
+            list.count += part.flat;
         } else {
             fits = false;
         }
     }
-    Some(fits.then_some((packed, count)))
+    Some(fits.then_some(list))
+}
+
+/// The list in the 32-bit memory; None where refused, `Some(None)` for memory.
+pub fn flatten(table: &[u32], n: u32, max: u32, references: &[u32]) -> Option<Option<List>> {
+    if references.len() > 16_384 || n as usize > capacity(table.len()) || max > 16 {
+        return None;
+    }
+    // SAFETY: there is room for n rows.
+    unsafe { list(table, n, max, references) }
+}
+
+/// How a function is lifted or lowered.
+#[derive(Clone, Copy, Debug)]
+pub struct Way {
+    pub asynchronous: bool,
+    pub lower: bool,
+    pub callback: bool,
+}
+
+impl Way {
+    pub const SYNC_LOWER: Way = Way {
+        asynchronous: false,
+        lower: true,
+        callback: false,
+    };
+
+    pub fn all() -> impl Iterator<Item = Way> {
+        (0..8).map(|number| Way {
+            asynchronous: number & 1 != 0,
+            lower: number & 2 != 0,
+            callback: number & 4 != 0,
+        })
+    }
+}
+
+/// A core signature.
+#[derive(Clone, Copy, Debug, PartialEq, Eq)]
+pub struct Signature {
+    pub params: List,
+    pub results: List,
+}
+
+/// The core signature in the 32-bit memory; None where refused.
+pub fn functype(
+    way: Way,
+    table: &[u32],
+    n: u32,
+    params: &[u32],
+    results: &[u32],
+) -> Option<Signature> {
+    if params.len() > 16_384 || results.len() > 16_384 || n as usize > capacity(table.len()) {
+        return None;
+    }
+    let [most_params, most_results] = match (way.asynchronous, way.lower) {
+        (true, true) => [4, 0],
+        _ => [16, 1],
+    };
+    // SAFETY: there is room for n rows.
+    let params = unsafe { list(table, n, most_params, params) }?.unwrap_or(List::I32);
+    let results = unsafe { list(table, n, most_results, results) }?;
+    Some(if way.lower {
+        lowered(way.asynchronous, params, results)
+    } else {
+        Signature {
+            params,
+            results: match (way.asynchronous, way.callback) {
+                (false, _) => results.unwrap_or(List::I32),
+                (true, true) => List::I32,
+                (true, false) => List::EMPTY,
+            },
+        }
+    })
+}
+
+/// Results that go through memory have a pointer among the parameters.
+#[inline]
+fn lowered(asynchronous: bool, params: List, results: Option<List>) -> Signature {
+    Signature {
+        params: match results {
+            Some(_) => params,
+            None => params.with_pointer(),
+        },
+        results: match asynchronous {
+            true => List::I32,
+            false => results.unwrap_or(List::EMPTY),
+        },
+    }
 }

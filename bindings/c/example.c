@@ -1,5 +1,6 @@
 /* Lays out the record (U8, String, U8), which a component may hand to another, and says as which core
- * types it travels; and lists one property of all types that are defined, the record and an option of it.
+ * types it travels and which core signature a function over it has; and lists one property of all types
+ * that are defined, the record and an option of it.
  * ./run compiles this, links the port's static library to it and runs it. */
 #include "lampughjata.h"
 
@@ -9,9 +10,13 @@
 enum { U8 = 2, STRING = 12, DEFINITION_0 = 64 };
 enum { RECORD = 1, OPTION = 8 };
 
-/* The two memories, and the two ways to call. */
+/* The two memories, the two ways to call, and the two ends of a call: the called lifts, the caller lowers. */
 enum { MEMORY32 = 0, MEMORY64 = 1 };
 enum { SYNC = 0, ASYNC = 1 };
+enum { LIFT = 0, LOWER = 1 };
+
+/* Only an async lift may have a callback. */
+enum { NO_CALLBACK = 0 };
 
 /* Which number of a type is asked for, and which list of a signature. */
 enum { SIZE32, ALIGN32, SIZE64, ALIGN64, FLAT_COUNT, FLAT32, FLAT64, BORROW, DEPTH };
@@ -50,6 +55,16 @@ static void print_list(uint64_t list)
     printf("(");
     for (unsigned k = 0; k < count; k++) printf("%s%s", k == 0 ? "" : ", ", names[list >> 2 * k & 3]);
     printf(")");
+}
+
+/* Prints a core signature, of which each list was asked for by itself. */
+static void print_signature(const char *name, const uint64_t list[RESULTS + 1])
+{
+    printf("%s: ", name);
+    print_list(list[PARAMETERS]);
+    printf(" -> ");
+    print_list(list[RESULTS]);
+    printf("\n");
 }
 
 /* The type's own numbers, each asked for by itself. */
@@ -93,11 +108,23 @@ static int print_async_start(const uint32_t *table, size_t words, uint32_t rows)
                                           types, 1, k);
         if (is_refused("async start", list[k])) return 1;
     }
-    printf("async start: ");
-    print_list(list[PARAMETERS]);
-    printf(" -> ");
-    print_list(list[RESULTS]);
-    printf("\n");
+    print_signature("async start", list);
+    return 0;
+}
+
+/* A function from the record to the record at one end of a sync call without an adapter, in a 64-bit memory. As a
+ * result the record has too many core types and lies in memory: the called returns a pointer to it, the caller
+ * passes one. */
+static int print_functype(uint32_t end, const uint32_t *table, size_t words, uint32_t rows)
+{
+    static const uint32_t types[] = {DEFINITION_0};
+    uint64_t list[RESULTS + 1];
+    for (uint32_t k = PARAMETERS; k <= RESULTS; k++) {
+        list[k] = lampughjata_functype(MEMORY64, SYNC, end, NO_CALLBACK, table, words, rows, types, 1,
+                                       types, 1, k);
+        if (is_refused("functype", list[k])) return 1;
+    }
+    print_signature(end == LIFT ? "functype, lifted" : "functype, lowered", list);
     return 0;
 }
 
@@ -121,5 +148,6 @@ int main(void)
     print_sizes(table, rows);
 
     return print_type(table, TABLE, rows) || print_placement(MEMORY32, table, TABLE, rows) ||
-           print_placement(MEMORY64, table, TABLE, rows) || print_async_start(table, TABLE, rows);
+           print_placement(MEMORY64, table, TABLE, rows) || print_async_start(table, TABLE, rows) ||
+           print_functype(LIFT, table, TABLE, rows) || print_functype(LOWER, table, TABLE, rows);
 }

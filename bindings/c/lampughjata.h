@@ -181,6 +181,31 @@ uint64_t lampughjata_async_return(uint32_t lift_memory, uint32_t lift_async, uin
     uint32_t lower_async, const uint32_t *table, size_t table_len, uint32_t rows, const uint32_t *lift,
     size_t lift_len, const uint32_t *lower, size_t lower_len, uint32_t k);
 
+/* The core signature of a function that is lifted (0) or lowered (1) without an adapter: k = 0 its parameters, 1 its results. One
+ * pointer takes the place of more than 16 flat parameters, of more than 4 if the function is lowered and async. Results of more than
+ * one core type lie in memory: a sync lift returns a pointer to them, a sync lower takes one as its last parameter.
+ *     lampughjata_functype(1, 0, 0, 0, table, 16, 1, record, 1, record, 1, 0) == 0x14 + 4 * COUNT
+ *     lampughjata_functype(1, 0, 0, 0, table, 16, 1, record, 1, record, 1, 1) == 0x1 + 1 * COUNT
+ *     lampughjata_functype(1, 0, 1, 0, table, 16, 1, record, 1, record, 1, 0) == 0x114 + 5 * COUNT
+ *     lampughjata_functype(1, 0, 1, 0, table, 16, 1, record, 1, record, 1, 1) == 0
+ *
+ * An async lift returns an I32 if it has a callback (1), else nothing. An async lower returns an I32, in a 64-bit memory too, and
+ * takes the pointer as soon as there is a core type to write: an empty record has none, though an async return has a pointer for it.
+ *     lampughjata_functype(1, 1, 0, 1, table, 16, 1, record, 1, record, 1, 1) == 1 * COUNT
+ *     lampughjata_functype(1, 1, 0, 0, table, 16, 1, record, 1, record, 1, 1) == 0
+ *     lampughjata_functype(1, 1, 1, 0, table, 16, 1, record, 1, record, 1, 0) == 0x114 + 5 * COUNT
+ *     lampughjata_functype(1, 1, 1, 0, table, 16, 1, record, 1, record, 1, 1) == 1 * COUNT
+ *     lampughjata_functype(1, 1, 1, 0, table, 16, 1, (uint32_t[]){64, 2}, 2, NULL, 0, 0) == 0x1 + 1 * COUNT
+ *     lampughjata_build((uint32_t[]){1, 0}, 2, deep, 16) == 1
+ *     lampughjata_functype(1, 1, 1, 0, deep, 16, 1, NULL, 0, record, 1, 0) == 0
+ *     lampughjata_async_return(1, 1, 1, 1, deep, 16, 1, record, 1, record, 1, 0) == 0x1 + 1 * COUNT
+ *
+ * The parameters are tested before the results, whose positions count on from theirs.
+ *     lampughjata_functype(1, 0, 0, 0, table, 16, 1, record, 1, (uint32_t[]){2, 65}, 2, 0) == 4 * REFUSED + 2 */
+uint64_t lampughjata_functype(uint32_t memory, uint32_t asynchronous, uint32_t lower, uint32_t callback,
+    const uint32_t *table, size_t table_len, uint32_t rows, const uint32_t *params, size_t params_len,
+    const uint32_t *results, size_t results_len, uint32_t k);
+
 /* Whether any of the types holds a Borrow (14).
  *     lampughjata_contains_borrow(table, 16, 1, record, 1) == 0
  *     lampughjata_contains_borrow(NULL, 0, 0, (uint32_t[]){14}, 1) == 1 */
@@ -210,6 +235,7 @@ uint64_t lampughjata_contains_borrow(const uint32_t *table, size_t table_len, ui
  *     lampughjata_lifting_bytes(0, 1, (uint8_t *)table, 64, 1, (uint8_t *)record, 4) == 4 * COUNT
  *     lampughjata_async_start_bytes(0, 1, 1, (uint8_t *)table, 64, 1, (uint8_t *)record, 4, (uint8_t *)record, 4, 0) == 4 * COUNT
  *     lampughjata_async_return_bytes(1, 1, 0, 1, (uint8_t *)table, 64, 1, (uint8_t *)record, 4, (uint8_t *)record, 4, 1) == 0
+ *     lampughjata_functype_bytes(0, 0, 1, 0, (uint8_t *)table, 64, 1, (uint8_t *)record, 4, (uint8_t *)record, 4, 0) == 5 * COUNT
  *     lampughjata_contains_borrow_bytes((uint8_t *)table, 64, 1, (uint8_t *)record, 4) == 0 */
 uint64_t lampughjata_record_bytes(const uint8_t *infos, size_t infos_len, uint32_t k);
 uint64_t lampughjata_variant_bytes(const uint8_t *cases, size_t cases_len, uint32_t k);
@@ -233,6 +259,9 @@ uint64_t lampughjata_async_start_bytes(uint32_t lower_memory, uint32_t lower_asy
 uint64_t lampughjata_async_return_bytes(uint32_t lift_memory, uint32_t lift_async, uint32_t lower_memory,
     uint32_t lower_async, const uint8_t *table, size_t table_len, uint32_t rows, const uint8_t *lift,
     size_t lift_len, const uint8_t *lower, size_t lower_len, uint32_t k);
+uint64_t lampughjata_functype_bytes(uint32_t memory, uint32_t asynchronous, uint32_t lower, uint32_t callback,
+    const uint8_t *table, size_t table_len, uint32_t rows, const uint8_t *params, size_t params_len,
+    const uint8_t *results, size_t results_len, uint32_t k);
 uint64_t lampughjata_contains_borrow_bytes(const uint8_t *table, size_t table_len, uint32_t rows,
     const uint8_t *references, size_t references_len);
 

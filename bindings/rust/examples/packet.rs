@@ -1,6 +1,8 @@
 //! The packet that an imager hands to the component that stores it: where its members stand in memory,
 //! and as which core types a call carries it.
-use lampughjata::{Calling, Description, Memory, Reference, Refused, Side, Table};
+use lampughjata::{
+    Calling, Context, Description, Function, Memory, Reference, Refused, Side, Table,
+};
 
 fn main() -> Result<(), Refused> {
     // First the types that have definitions of their own.
@@ -48,19 +50,10 @@ fn main() -> Result<(), Refused> {
     // A screen that shows its members, and what these are made of, goes so many levels down.
     println!("a packet is {} definitions deep", info.depth);
 
-    // The imager, with a 32-bit memory, calls the store, with a 64-bit one: `store(packet) -> bool`.
-    // Both are async, so an adapter between them needs two core functions.
-    let side = |memory, types| Side {
-        memory,
-        calling: Calling::Async,
-        types,
-    };
-    let (imager, store) = (Memory::Memory32, Memory::Memory64);
+    // The imager calls the store: `store(packet) -> bool`, async at both ends.
     let (parameters, results) = ([packet], [Reference::BOOL]);
-    let start = table.async_start(side(imager, &parameters), side(store, &parameters))?;
-    println!("the call starts through {start}");
-    let end = table.async_return(side(store, &results), side(imager, &results))?;
-    println!("and returns through     {end}");
+    print_adapter(&table, &parameters, &results)?;
+    print_plain_calls(&table, &parameters, &results)?;
 
     // A description from elsewhere may ask for what no memory can hold: the answer says so.
     let mut description = Description::new();
@@ -68,5 +61,47 @@ fn main() -> Result<(), Refused> {
     if let Err(refused) = Table::build(description.words()) {
         println!("an image of 2147483648 pixels: {refused}");
     }
+    Ok(())
+}
+
+const IMAGER: Memory = Memory::Memory32;
+const STORE: Memory = Memory::Memory64;
+
+/// An adapter between the two components needs two core functions.
+fn print_adapter(
+    table: &Table,
+    parameters: &[Reference],
+    results: &[Reference],
+) -> Result<(), Refused> {
+    let side = |memory, types| Side {
+        memory,
+        calling: Calling::Async,
+        types,
+    };
+    let start = table.async_start(side(IMAGER, parameters), side(STORE, parameters))?;
+    println!("the call starts through {start}");
+    let end = table.async_return(side(STORE, results), side(IMAGER, results))?;
+    println!("and returns through     {end}");
+    Ok(())
+}
+
+/// A host that stands at one end itself needs no adapter: it calls what the store exports, or is called by what
+/// the imager imports.
+fn print_plain_calls(
+    table: &Table,
+    params: &[Reference],
+    results: &[Reference],
+) -> Result<(), Refused> {
+    let function = |memory| Function {
+        memory,
+        calling: Calling::Async,
+        callback: true,
+        params,
+        results,
+    };
+    let exported = table.functype(Context::Lift, function(STORE))?;
+    println!("the store exports       {exported}");
+    let imported = table.functype(Context::Lower, function(IMAGER))?;
+    println!("the imager imports      {imported}");
     Ok(())
 }

@@ -20,6 +20,16 @@ pub struct RawSide<'a> {
     pub types: &'a [Reference],
 }
 
+/// A function that is lifted or lowered without an adapter, in the library's numbers.
+#[derive(Clone, Copy)]
+pub struct RawFunction<'a> {
+    pub memory: u32,
+    pub asynchronous: u32,
+    pub callback: u32,
+    pub params: &'a [Reference],
+    pub results: &'a [Reference],
+}
+
 fn lent(words: &[u32]) -> (*const u32, usize) {
     (words.as_ptr(), words.len())
 }
@@ -157,6 +167,29 @@ pub fn async_return(table: RawTable, lift: RawSide, lower: RawSide, k: u32) -> u
             lift_len,
             lower_list,
             lower_len,
+            k,
+        )
+    }
+}
+
+pub fn functype(table: RawTable, lower: u32, function: RawFunction, k: u32) -> u64 {
+    let (words, words_len) = lent(table.words);
+    let (params, params_len) = lent_references(function.params);
+    let (results, results_len) = lent_references(function.results);
+    // SAFETY: as at the top.
+    unsafe {
+        raw::functype(
+            function.memory,
+            function.asynchronous,
+            lower,
+            function.callback,
+            words,
+            words_len,
+            table.rows,
+            params,
+            params_len,
+            results,
+            results_len,
             k,
         )
     }

@@ -38,4 +38,4 @@ mod table;
 pub use core_types::{CoreType, CoreTypes, Flattened, Signature};
 pub use description::{Description, Reference};
 pub use refusal::{Place, Refusal, Refused, Result};
-pub use table::{Calling, Info, Layout, Memory, Placement, Side, Table};
+pub use table::{Calling, Context, Function, Info, Layout, Memory, Placement, Side, Table};

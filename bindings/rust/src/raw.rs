@@ -149,6 +149,22 @@ macro_rules! declare_over {
                 k: u32,
             ) -> u64;
 
+            #[link_name = concat!("lampughjata_functype", $suffix)]
+            pub fn functype(
+                memory: u32,
+                asynchronous: u32,
+                lower: u32,
+                callback: u32,
+                table: *const $unit,
+                table_len: usize,
+                rows: u32,
+                params: *const $unit,
+                params_len: usize,
+                results: *const $unit,
+                results_len: usize,
+                k: u32,
+            ) -> u64;
+
             #[link_name = concat!("lampughjata_contains_borrow", $suffix)]
             pub fn contains_borrow(
                 table: *const $unit,

@@ -1,6 +1,6 @@
 //! The table of a description, and the questions put to it.
 use crate::answer::{self, Built};
-use crate::calls::{self, RawSide, RawTable, Results};
+use crate::calls::{self, RawFunction, RawSide, RawTable, Results};
 use crate::core_types::{CoreTypes, Flattened, Signature};
 use crate::{Place, Reference, Result};
 use std::fmt;
@@ -52,6 +52,48 @@ impl<'a> Side<'a> {
             memory: self.memory.number(),
             asynchronous: self.calling.number(),
             types: self.types,
+        }
+    }
+}
+
+/// Which end of a call a function is compiled for: the called lifts what it exports, the caller lowers
+/// what it imports.
+#[derive(Clone, Copy, Debug, PartialEq, Eq, Hash)]
+pub enum Context {
+    Lift,
+    Lower,
+}
+
+impl Context {
+    fn number(self) -> u32 {
+        match self {
+            Context::Lift => 0,
+            Context::Lower => 1,
+        }
+    }
+}
+
+/// A function that is lifted or lowered without an adapter: how it is compiled, and its types.
+#[derive(Clone, Copy, Debug, PartialEq, Eq)]
+pub struct Function<'a> {
+    pub memory: Memory,
+    pub calling: Calling,
+    /// Whether it has a callback, which plays a part in an async lift alone.
+    pub callback: bool,
+    /// The types of the parameters.
+    pub params: &'a [Reference],
+    /// The types of the results.
+    pub results: &'a [Reference],
+}
+
+impl<'a> Function<'a> {
+    fn raw(self) -> RawFunction<'a> {
+        RawFunction {
+            memory: self.memory.number(),
+            asynchronous: self.calling.number(),
+            callback: self.callback.into(),
+            params: self.params,
+            results: self.results,
         }
     }
 }
@@ -533,6 +575,41 @@ impl<W: AsRef<[u32]>> Table<W> {
     /// ```
     pub fn async_return(&self, lift: Side, lower: Side) -> Result<Signature> {
         signature(|k| calls::async_return(self.raw(), lift.raw(), lower.raw(), k))
+    }
+
+    /// The core signature of a function that is lifted or lowered without an adapter.
+    ///
+    /// - Parameters of more than 16 core types, or of more than 4 in an async lower, are one pointer.
+    /// - A sync function returns one core type at most. If its results have more, a lift returns a pointer
+    ///   to them, and a lower takes one as its last parameter and returns nothing.
+    /// - An async lift returns an I32 if it has a callback, else nothing.
+    /// - An async lower returns an I32, in a 64-bit memory too. It takes a pointer as its last parameter if
+    ///   its results have any core type. An empty record has none, and so gets no pointer here, unlike in
+    ///   [`Table::async_return`].
+    ///
+    /// The parameters are tested before the results, whose positions count on from theirs.
+    ///
+    /// ```
+    /// # use lampughjata::{Calling, Context, Function, Memory, Reference, Table};
+    /// let table = Table::build(&[])?;
+    /// let greet = Function {
+    ///     memory: Memory::Memory64,
+    ///     calling: Calling::Sync,
+    ///     callback: false,
+    ///     params: &[Reference::STRING, Reference::U32],
+    ///     results: &[Reference::STRING],
+    /// };
+    /// let signature = |context, function| table.functype(context, function).map(|s| s.to_string());
+    /// assert_eq!(signature(Context::Lift, greet)?, "(I64, I64, I32) -> (I64)");
+    /// assert_eq!(signature(Context::Lower, greet)?, "(I64, I64, I32, I64) -> ()");
+    ///
+    /// let greet = Function { calling: Calling::Async, callback: true, ..greet };
+    /// assert_eq!(signature(Context::Lift, greet)?, "(I64, I64, I32) -> (I32)");
+    /// assert_eq!(signature(Context::Lower, greet)?, "(I64, I64, I32, I64) -> (I32)");
+    /// # Ok::<(), lampughjata::Refused>(())
+    /// ```
+    pub fn functype(&self, context: Context, function: Function) -> Result<Signature> {
+        signature(|k| calls::functype(self.raw(), context.number(), function.raw(), k))
     }
 
     /// Whether any of the types holds a Borrow.

@@ -57,6 +57,6 @@ fn declared() -> Calls {
 #[test]
 fn declarations_are_the_headers() {
     let header = calls(HEADER, "uint64_t lampughjata_", c_type);
-    assert_eq!(header.len(), 9 + 2 * 12);
+    assert_eq!(header.len(), 9 + 2 * 13);
     assert_eq!(declared(), header);
 }

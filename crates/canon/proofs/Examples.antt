@@ -1,7 +1,7 @@
 -- The worked examples of document 01 and of order 4, with depths by order 5's rule, as one list under one theorem: words in, the papers' numbers
 -- out, through the meaning of descriptions and questions that the promises cite. How deep lists may go, in a longer table, is a theorem beside it.
 use mathlib.Core.Path.{_≡_, refl}
-use mathlib.Core.Bool.{true, false}
+use mathlib.Core.Bool.{Bool, true, false}
 use mathlib.Core.List.{List, [], _∷_, _++_, map}
 use Prim.Native.Nat.{ℕ, zero, suc, _+_, _-_}
 use lib.ListN.{replicate}
@@ -16,6 +16,8 @@ use Rattle.canon.specs.Description.{reference, mark, caseOf, membersOf, 
 use Rattle.canon.specs.Question.{plainInfo, readRow, read, infos, noTable, ask, askTwo, typeAnswer, firstOver, orSize, refusedAt, judged, placed, placing, placementAnswer}
 use Rattle.canon.specs.Cost.{rowsAmong, referencesFrom, buildReads, placementReads}
 use Rattle.canon.specs.Gaps.{gaps, gapAfter, padded, padding}
+use Rattle.canon.specs.Functype.{Context, lift, lower, functypeOf, functypeAnswer, flattenAsync, flattenFunctype}
+use Rattle.canon.specs.Types.{Core, I32, I64, scalar, u32, fixedOf}
 use Rattle.canon.specs.Signature.{Flattened, listed, inMemory, flatAll, atMost, flattenAnswer, Side, Signature, orPointer, startOf, asyncStartAnswer, behindPointer, returned, returnOf, asyncReturnAnswer}
 
 -- what is asked of a description's table, most often of its last definition
@@ -220,3 +222,55 @@ unfolding
     goodLayout goodCount unusedZero goodAbi isDiscriminant isGood capacity place cell cellsFrom putFrom putRows reference kindOf typeOf isTooLarge isTooDeep checked bodied buildFrom build tableAfter
     plainInfo readRow read infos noTable ask firstOver orSize refusedAt judged placed gaps gapAfter padded padding
 gaps-hold = refl
+
+-- Plain calls, over a table of an empty record (64), of 17 U32 (65) and of a fixed list of none of these (66), which has no flat count
+
+abbrev mixed : List ℕ
+mixed = tableAfter (1 ∷ 0 ∷ 10 ∷ 6 ∷ 17 ∷ 10 ∷ 65 ∷ 0 ∷ []) (replicate 48 0)
+
+abbrev plainCall : Context → Side → Bool → List ℕ → List ℕ → Answer Signature
+plainCall c s callback vs ws = functypeAnswer mixed 3 c s callback vs ws
+
+abbrev signed : List Core → List Core → Answer Signature
+signed ps rs = ok (record { params = ps; results = rs })
+
+pub functypes-hold :
+    -- (U8, String) to String: a returned pointer, and a pointer parameter; 17 U32 to String: two pointers
+    plainCall lift (side mem64) false (2 ∷ 12 ∷ []) (12 ∷ [])
+    ∷ plainCall lower (side mem64) false (2 ∷ 12 ∷ []) (12 ∷ [])
+    ∷ plainCall lower (side mem32) false (65 ∷ []) (12 ∷ [])
+    -- four U32 to U32, and five to nothing, lowered async; five to String, lifted async with a callback and without
+    ∷ plainCall lower (asyncSide mem64) false (6 ∷ 6 ∷ 6 ∷ 6 ∷ []) (6 ∷ [])
+    ∷ plainCall lower (asyncSide mem64) false (6 ∷ 6 ∷ 6 ∷ 6 ∷ 6 ∷ []) []
+    ∷ plainCall lift (asyncSide mem64) true (6 ∷ 6 ∷ 6 ∷ 6 ∷ 6 ∷ []) (12 ∷ [])
+    ∷ plainCall lift (asyncSide mem64) false (6 ∷ 6 ∷ 6 ∷ 6 ∷ 6 ∷ []) (12 ∷ [])
+    -- an empty record as result, lowered async: no pointer, but one in async return
+    ∷ plainCall lower (asyncSide mem32) false [] (64 ∷ [])
+    ∷ asyncReturnAnswer mixed 3 (side mem64) [] (asyncSide mem32) (64 ∷ [])
+    -- none is above 0 as well; a result that is not looked at is tested, and its position counts on
+    ∷ plainCall lower (asyncSide mem32) false [] (66 ∷ [])
+    ∷ plainCall lift (asyncSide mem32) false (6 ∷ []) (6 ∷ 67 ∷ [])
+    ∷ []
+    ≡ signed (I32 ∷ I64 ∷ I64 ∷ []) (I64 ∷ [])
+    ∷ signed (I32 ∷ I64 ∷ I64 ∷ I64 ∷ []) []
+    ∷ signed (I32 ∷ I32 ∷ []) []
+    ∷ signed (I32 ∷ I32 ∷ I32 ∷ I32 ∷ I64 ∷ []) (I32 ∷ [])
+    ∷ signed (I64 ∷ []) (I32 ∷ [])
+    ∷ signed (I32 ∷ I32 ∷ I32 ∷ I32 ∷ I32 ∷ []) (I32 ∷ [])
+    ∷ signed (I32 ∷ I32 ∷ I32 ∷ I32 ∷ I32 ∷ []) []
+    ∷ signed [] (I32 ∷ [])
+    ∷ signed (I64 ∷ []) []
+    ∷ signed (I32 ∷ []) (I32 ∷ [])
+    ∷ refused 4 2
+    ∷ []
+unfolding
+    atPosition then unless roundUp greatestAlign starts ends lastEnd recordSize layout numbers concat copies flatten timesFlat sumFlat flatCount joinReach deeper reachWord wordReach goodReach reach pack unpack
+    rowOf flatOf isAlignment goodLayout goodCount unusedZero goodAbi isDiscriminant isGood capacity place cell cellsFrom putFrom putRows reference membersOf kindOf typeOf isTooLarge isTooDeep checked bodied
+    buildFrom build tableAfter plainInfo readRow read infos noTable askTwo flatAll atMost orPointer behindPointer returned returnOf asyncReturnAnswer functypeOf functypeAnswer
+functypes-hold = refl
+
+-- the standard gives that fixed list no pointer: its list is empty
+pub parting-shown :
+    flattenFunctype mem32 lower true false [] (fixedOf (fixedOf (scalar u32) 17) 0 ∷ []) ≡ record { params = []; results = I32 ∷ [] }
+unfolding flattenAsync concat flatten copies
+parting-shown = refl

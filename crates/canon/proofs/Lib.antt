@@ -17,6 +17,7 @@ pub mod Rows
 pub mod Bodies
 pub mod Built
 pub mod Questions
+pub mod Signatures
 pub mod Gaps
 pub mod Stopped
 pub mod Costs

@@ -13,4 +13,5 @@ pub mod Question
 pub mod Cost
 pub mod Gaps
 pub mod Signature
+pub mod Functype
 pub mod Before

@@ -10,7 +10,7 @@ use lib.Seq.{take-all}
 use borrow.Author.Tests.{eq-eqb, ne-eqb}
 use Rattle.canon.specs.Description.{tableAfter}
 use Rattle.canon.specs.Layout.{Memory}
-use Rattle.canon.specs.Signature.{flattenAnswer, asyncStartAnswer, asyncReturnAnswer}
+use Rattle.canon.specs.Signature.{flattenAnswer}
 use Rattle.canon.specs.Answer.{Answer, ok}
 use Rattle.canon.specs.Question.{borrowAnswer, bufferAfter}
 use Rattle.canon.specs.Gaps.{Padded, roomOf, padding, lentAfter}
@@ -19,6 +19,7 @@ use Rattle.words.specs.Words.{wholeWords, putWords}
 use Rattle.words.proofs.Laws.{length-whole, front-read, put-rest}
 use Rattle.host.specs.Numbers.{placementCall}
 use Rattle.host.specs.Questions.{questionNumber}
+use Rattle.signature.proofs.Asking.{question-two}
 use Rattle.host.specs.declared.question.Question.{Question}
 use Rattle.host.specs.declared.question.Question.the-variants as question
 
@@ -45,12 +46,12 @@ empty-first ws =
 pub question-first :
     (q : Question) (t : List ℕ) (n : ℕ) (vs ws : List ℕ) →
     questionNumber q (take 16384 t) n (take 16385 vs) (take 16385 ws) ≡ questionNumber q t n vs ws
-unfolding flattenAnswer asyncStartAnswer asyncReturnAnswer borrowAnswer
+unfolding flattenAnswer borrowAnswer
 question-first (question.Flatten m max) t n vs ws = rw (ask-first t n)
 question-first (question.Lowering m a) t n vs ws = rw (ask-first t n)
 question-first (question.Lifting m a) t n vs ws = rw (ask-first t n)
-question-first (question.AsyncStart m a l k) t n vs ws = rw (askTwo-first t n)
-question-first (question.AsyncReturn m a l b k) t n vs ws = rw (empty-first ws, askTwo-first t n)
+question-first (question.Signature x k) t n vs ws =
+    rw (question-two x (take 16384 t) n (take 16385 vs) (take 16385 ws), question-two x t n vs ws, empty-first ws, askTwo-first t n)
 question-first question.ContainsBorrow t n vs ws = rw (ask-first t n)
 
 -- and where the table alone is cut

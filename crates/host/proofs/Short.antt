@@ -15,16 +15,20 @@ use Rattle.canon.specs.Layout.{Memory}
 use Rattle.canon.specs.Row.{Info}
 use Rattle.canon.specs.Question.{read, infos, tooMany, noTable, ask, askTwo, Placing, placing, placementAnswer, layoutsIn}
 use Rattle.canon.specs.Signature.{listed, inMemory, flatAll, atMost, flattenAnswer, Side, liftingMax, paramsMax, startOf, asyncStartAnswer, behindPointer, listOrNone, returned, returnOf, asyncReturnAnswer}
+use Rattle.canon.specs.Functype.{Context, functypeAnswer}
 use Rattle.canon.specs.Gaps.{Padded, padding, afterAnswer}
 use Rattle.canon.specs.Types.{Core}
 use Rattle.canon.proofs.Packing.{pack-lt}
 use Rattle.canon.proofs.Questions.{infos-aligned, placing-reads, placing-starts}
+use Rattle.canon.proofs.Signatures.{maximum-small, kept-short, or-pointer-short, functype-short}
 use Rattle.canon.proofs.Refusals.{placed-is}
 use Rattle.canon.proofs.Gaps.{after-below, padding-gaps}
 use Rattle.canon.proofs.Tightest.{greatestAlign-alignment}
 use Rattle.types.proofs.RoundLaws.{alignment-most}
 use Rattle.signature.specs.Packs.{packedList, packedFlat, packedFlattened, packedSignature, packedAnswer}
-use Rattle.signature.proofs.Maxima.{params-short, maximum-small}
+use Rattle.signature.specs.Means.{contextMeans, sideMeans, questionAnswer}
+use Rattle.signature.specs.declared.question.SignatureQuestion.{SignatureQuestion}
+use Rattle.signature.specs.declared.question.SignatureQuestion.the-variants as question
 use Rattle.host.specs.Short.{ShortList, ShortFlat, ShortSignature, ShortLayout, ShortGap, IfAnswered}
 
 -- Whatever a question answers
@@ -111,15 +115,6 @@ flatten-short m max t n ws =
 
 -- Signatures
 
-results-short : (max : ℕ) (o : Option (List Core)) → max ≤ 16 → length (listOrNone (atMost max o)) ≤ 17
-unfolding atMost
-results-short max none h = omega arith
-results-short max (some l) h = go (leb (length l) max) refl
-  where
-    go : (b : Bool) → leb (length l) max ≡ b → length (listOrNone (cond b (listed l) inMemory)) ≤ 17
-    go true e = omega (arith, leb-true (length l) max e)
-    go false e = omega arith
-
 pub start-short :
     (t : List ℕ) (n : ℕ) (lower : Side) (vs : List ℕ) (lift : Side) (ws : List ℕ) →
     IfAnswered ShortSignature (packedAnswer (asyncStartAnswer t n lower vs lift ws))
@@ -128,8 +123,8 @@ start-short t n lower vs lift ws =
     then-answers ShortSignature (asyncStartAnswer t n lower vs lift ws) packedSignature
     (askTwo-answers (λ s. ShortSignature (packedSignature s)) t n vs ws _
     (λ is′ js. (
-      short-list _ (omega (arith, params-short (lower .memory) (paramsMax (lower .async)) (flatAll (lower .memory) is′) (maximum-small (lower .async) 4 16 (omega arith) (omega arith)))),
-      short-list _ (omega (arith, params-short (lift .memory) 16 (flatAll (lift .memory) js) (omega arith))),
+      short-list _ (omega (arith, or-pointer-short (lower .memory) (paramsMax (lower .async)) 16 (flatAll (lower .memory) is′) (maximum-small (lower .async) 4 16 (omega arith) (omega arith)) (omega arith))),
+      short-list _ (or-pointer-short (lift .memory) 16 17 (flatAll (lift .memory) js) (omega arith) (omega arith)),
     )))
 
 returned-short :
@@ -147,5 +142,23 @@ return-short t n lift vs lower ws =
     (askTwo-answers (λ s. ShortSignature (packedSignature s)) t n vs ws _
     (λ is′ js.
     returned-short (lift .memory) (behindPointer (lower .async) (eqb (length ws) 0) (atMost 1 (flatAll (lower .memory) js))) _ _
-    (params-short (lift .memory) (liftingMax (lift .async)) (flatAll (lift .memory) is′) (maximum-small (lift .async) 16 1 (omega arith) (omega arith)))
-    (results-short 1 (flatAll (lower .memory) js) (omega arith))))
+    (or-pointer-short (lift .memory) (liftingMax (lift .async)) 16 (flatAll (lift .memory) is′) (maximum-small (lift .async) 16 1 (omega arith) (omega arith)) (omega arith))
+    (kept-short listOrNone 1 17 (flatAll (lower .memory) js) (λ l. refl) (omega arith) (omega arith))))
+
+pub functype-answers-short :
+    (t : List ℕ) (n : ℕ) (c : Context) (s : Side) (callback : Bool) (vs ws : List ℕ) →
+    IfAnswered ShortSignature (packedAnswer (functypeAnswer t n c s callback vs ws))
+unfolding functypeAnswer
+functype-answers-short t n c s callback vs ws =
+    then-answers ShortSignature (functypeAnswer t n c s callback vs ws) packedSignature
+    (askTwo-answers (λ u. ShortSignature (packedSignature u)) t n vs ws _
+    (λ is′ js.
+    let short = functype-short c s callback (flatAll (s .memory) is′) (flatAll (s .memory) js) in
+    (short-list _ (short .0), short-list _ (omega (arith, short .1)))))
+
+-- whichever a question as a value names
+pub question-short :
+    (x : SignatureQuestion) (t : List ℕ) (n : ℕ) (vs ws : List ℕ) → IfAnswered ShortSignature (packedAnswer (questionAnswer x t n vs ws))
+question-short (question.AsyncStart lower lift) t n vs ws = start-short t n (sideMeans lower) vs (sideMeans lift) ws
+question-short (question.AsyncReturn lift lower) t n vs ws = return-short t n (sideMeans lift) vs (sideMeans lower) ws
+question-short (question.Functype c s callback) t n vs ws = functype-answers-short t n (contextMeans c) (sideMeans s) callback vs ws

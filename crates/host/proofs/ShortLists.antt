@@ -15,10 +15,11 @@ use Rattle.canon.specs.Layout.{Memory}
 use Rattle.canon.specs.Question.{read, infos, tooMany, noTable, ask, askTwo, typeAnswer, borrowAnswer, layoutsIn, Placing, placing, placementAnswer}
 use Rattle.canon.specs.Cost.{rowsAmong, reported, placementReads}
 use Rattle.canon.specs.Gaps.{Padded, padded, padding, lentAfter, afterAnswer}
-use Rattle.canon.specs.Signature.{flattenAnswer, asyncStartAnswer, asyncReturnAnswer}
+use Rattle.canon.specs.Signature.{flattenAnswer}
 use Rattle.host.specs.Numbers.{refusalNumber, placementCall}
 use Rattle.host.specs.Picked.{readPicked, Names}
 use Rattle.host.specs.Questions.{questionNumber}
+use Rattle.signature.proofs.Asking.{question-two}
 use Rattle.host.proofs.Picked.{no-rows-is}
 use Rattle.canon.proofs.Questions.{placing-starts}
 use Rattle.canon.proofs.Gaps.{placingOf, padding-placing}
@@ -61,12 +62,11 @@ placing-missing memory t n ws room h e =
 
 pub question-missing :
     (q : Question) (t : List ℕ) (n : ℕ) (vs ws : List ℕ) → length vs ≤ 16 → length ws ≤ 16 → noTable t n ≡ true → questionNumber q t n vs ws ≡ refusalNumber badRow 0
-unfolding flattenAnswer asyncStartAnswer asyncReturnAnswer borrowAnswer then
+unfolding flattenAnswer borrowAnswer then
 question-missing (question.Flatten m max) t n vs ws h l e = rw (ask-missing t n _ _ vs _ h e)
 question-missing (question.Lowering m a) t n vs ws h l e = rw (ask-missing t n _ _ vs _ h e)
 question-missing (question.Lifting m a) t n vs ws h l e = rw (ask-missing t n _ _ vs _ h e)
-question-missing (question.AsyncStart m a r k) t n vs ws h l e = rw (askTwo-missing t n vs ws _ h l e)
-question-missing (question.AsyncReturn m a r b k) t n vs ws h l e = rw (askTwo-missing t n vs ws _ h l e)
+question-missing (question.Signature x k) t n vs ws h l e = rw (question-two x t n vs ws, askTwo-missing t n vs ws _ h l e)
 question-missing question.ContainsBorrow t n vs ws h l e = rw (ask-missing t n _ _ vs _ h e)
 
 -- A table that is there
@@ -156,10 +156,9 @@ module _ (p t : List ℕ) (m n : ℕ) (rows : capacity (length p) ≡ m) (there 
         rw (few-names slot us vs first h, few-names slot′ xs ws second l, few vs h, few ws l, mine, there, named slot us vs first h 0, first .count, named slot′ xs ws second l (length vs))
 
     pub question-alike : (q : Question) → questionNumber q p m us xs ≡ questionNumber q t n vs ws
-    unfolding flattenAnswer asyncStartAnswer asyncReturnAnswer borrowAnswer
+    unfolding flattenAnswer borrowAnswer
     question-alike (question.Flatten m max) = rw (ask-alike slot us vs first h)
     question-alike (question.Lowering m a) = rw (ask-alike slot us vs first h)
     question-alike (question.Lifting m a) = rw (ask-alike slot us vs first h)
-    question-alike (question.AsyncStart m a r k) = rw askTwo-alike
-    question-alike (question.AsyncReturn m a r b k) = rw (second .count, askTwo-alike)
+    question-alike (question.Signature x k) = rw (question-two x p m us xs, question-two x t n vs ws, second .count, askTwo-alike)
     question-alike question.ContainsBorrow = rw (ask-alike slot us vs first h)

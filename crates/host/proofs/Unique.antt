@@ -24,6 +24,7 @@ use Rattle.host.proofs.signatures.lampughjata_lowering.Reads as lowerin
 use Rattle.host.proofs.signatures.lampughjata_lifting.Reads as lifting
 use Rattle.host.proofs.signatures.lampughjata_async_start.Reads as async-start
 use Rattle.host.proofs.signatures.lampughjata_async_return.Reads as async-return
+use Rattle.host.proofs.signatures.lampughjata_functype.Reads as functype
 use Rattle.host.proofs.signatures.lampughjata_contains_borrow.Reads as contains-borrow
 use Rattle.host.proofs.records.lampughjata_record_bytes.Reads as record-bytes
 use Rattle.host.proofs.variants.lampughjata_variant_bytes.Reads as variant-bytes
@@ -36,6 +37,7 @@ use Rattle.host.proofs.signature_bytes.lampughjata_lowering_bytes.Reads
 use Rattle.host.proofs.signature_bytes.lampughjata_lifting_bytes.Reads as lifting-bytes
 use Rattle.host.proofs.signature_bytes.lampughjata_async_start_bytes.Reads as async-start-bytes
 use Rattle.host.proofs.signature_bytes.lampughjata_async_return_bytes.Reads as async-return-bytes
+use Rattle.host.proofs.signature_bytes.lampughjata_functype_bytes.Reads as functype-bytes
 use Rattle.host.proofs.signature_bytes.lampughjata_contains_borrow_bytes.Reads as contains-borrow-bytes
 
 -- what is not written is at exit what it was
@@ -110,6 +112,9 @@ async-start-one κs a r q g h = g ∙ sym h
 pub async-return-one : (κs : Lfts 3) → Single (async-return.Post κs)
 async-return-one κs a r q g h = g ∙ sym h
 
+pub functype-one : (κs : Lfts 3) → Single (functype.Post κs)
+functype-one κs a r q g h = g ∙ sym h
+
 pub contains-borrow-one : (κs : Lfts 2) → Single (contains-borrow.Post κs)
 contains-borrow-one κs a r q g h = g ∙ sym h
 
@@ -153,6 +158,9 @@ async-start-bytes-one κs a r q g h = g ∙ sym h
 
 pub async-return-bytes-one : (κs : Lfts 3) → Single (async-return-bytes.Post κs)
 async-return-bytes-one κs a r q g h = g ∙ sym h
+
+pub functype-bytes-one : (κs : Lfts 3) → Single (functype-bytes.Post κs)
+functype-bytes-one κs a r q g h = g ∙ sym h
 
 pub contains-borrow-bytes-one : (κs : Lfts 2) → Single (contains-borrow-bytes.Post κs)
 contains-borrow-bytes-one κs a r q g h = g ∙ sym h

@@ -14,6 +14,7 @@ use Rattle.canon.specs.Question.{placementAnswer}
 use Rattle.canon.specs.Cost.{buildReads, placementReads}
 use Rattle.canon.specs.Gaps.{afterAnswer}
 use Rattle.canon.specs.Signature.{Side}
+use Rattle.canon.specs.Functype.{Context, lift, lower}
 use Rattle.types.specs.Leaves.{Rounding, Field, VariantAbi}
 use Rattle.signature.specs.Packs.{PackedSignature}
 
@@ -23,12 +24,16 @@ use Rattle.signature.specs.Packs.{PackedSignature}
 abbrev pub memoryAt : ℕ → Memory
 memoryAt x = cond (eqb x 0) mem32 mem64
 
--- "Async is 0 for sync, any other number for async"
+-- "Async is 0 for sync, any other number for async"; "A callback is 0 for none, any other number for one"
 abbrev pub isSet : ℕ → Bool
 isSet x = not (eqb x 0)
 
 abbrev pub sideAt : ℕ → ℕ → Side
 sideAt memory async = record { memory = memoryAt memory; async = isSet async }
+
+-- "A context is 0 for lift, any other number for lower"
+abbrev pub contextAt : ℕ → Context
+contextAt x = cond (eqb x 0) lift lower
 
 -- of two flat counts: "0 to 254 is the count, 255 and everything above is none"
 abbrev pub flatAt : ℕ → Option ℕ

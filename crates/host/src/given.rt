@@ -1,8 +1,9 @@
 // Says what the numbers that a host passes stand for (docs/HOST.md).
 ghost use mathlib.Core.Path.{_≡_};
 ghost use Rattle.types.specs.Means.{memoryOf, countMeans, abiMeans};
-ghost use Rattle.signature.specs.Means.{sideMeans};
-ghost use Rattle.host.specs.Numbers.{memoryAt, isSet, sideAt, flatAt, infoFlatAt, abiAt};
+ghost use Rattle.signature.specs.Means.{contextMeans, sideMeans};
+ghost use Rattle.host.specs.Numbers.{memoryAt, isSet, sideAt, contextAt, flatAt, infoFlatAt, abiAt};
+use signature::Context;
 use signature::Side;
 use types::CanonicalAbiInfo;
 use types::FlatCount;
@@ -21,8 +22,8 @@ pub(crate) fn memory_at(memory: u32) -> Memory
     }
 }
 
-// Async is 0 for sync, any other number for async.
-fn is_set(x: u32) -> bool
+// Async is 0 for sync, any other number for async; a callback is 0 for none.
+pub(crate) fn is_set(x: u32) -> bool
     ensures { λ r. ⌜ r ≡ isSet x ⌝ }
 {
     if x == 0 { false } else { true }
@@ -34,6 +35,17 @@ pub(crate) fn side_at(memory: u32, async_: u32) -> Side
     Side {
         memory: memory_at(memory),
         async_: is_set(async_),
+    }
+}
+
+// A context is 0 for lift, any other number for lower.
+pub(crate) fn context_at(lower: u32) -> Context
+    ensures { λ r. ⌜ contextMeans r ≡ contextAt lower ⌝ }
+{
+    if lower == 0 {
+        Context::Lift
+    } else {
+        Context::Lower
     }
 }
 

@@ -5,19 +5,20 @@ ghost use lib.ListN.{length};
 ghost use Rattle.words.specs.Words.{wholeWords};
 ghost use Rattle.host.specs.Questions.{questionNumber};
 use crate::packing::refused;
+use crate::packing::signature_number;
 use crate::pick::PICKED_WORDS;
 use crate::pick::SHORT_LIST;
 use crate::pick::SLOTS;
 use crate::pick::TABLE_BYTES;
 use crate::pick::no_rows;
 use crate::pick::pick_rows;
-use crate::signatures::lampughjata_async_return;
-use crate::signatures::lampughjata_async_start;
 use crate::signatures::lampughjata_contains_borrow;
 use crate::signatures::lampughjata_flatten;
 use crate::signatures::lampughjata_lifting;
 use crate::signatures::lampughjata_lowering;
 use questions::MOST_REFERENCES;
+use signature::SignatureQuestion;
+use signature::signature_of;
 use table::TABLE_WORDS;
 use types::Refusal;
 use words::words_of;
@@ -25,13 +26,12 @@ use words::words_of;
 // The slots of the second list come after those of the first.
 const BOTH_SLOTS: u32 = 2 * SLOTS;
 
-// Each has the numbers that the call of the same name takes beside the table and the lists.
+// Each has what the call of its name takes beside the table and the lists; a signature has its question and k.
 pub(crate) enum Question {
     Flatten(u32, u32),
     Lowering(u32, u32),
     Lifting(u32, u32),
-    AsyncStart(u32, u32, u32, u32),
-    AsyncReturn(u32, u32, u32, u32, u32),
+    Signature(SignatureQuestion, u32),
     ContainsBorrow,
 }
 
@@ -55,30 +55,8 @@ fn ask(question: Question, table: &[u32], rows: u32, first: &[u32], second: &[u3
             rows,
             first,
         ),
-        Question::AsyncStart(lower_memory, lower_async, lift_memory, k) => {
-            lampughjata_async_start(
-                lower_memory,
-                lower_async,
-                lift_memory,
-                table,
-                rows,
-                first,
-                second,
-                k,
-            )
-        }
-        Question::AsyncReturn(lift_memory, lift_async, lower_memory, lower_async, k) => {
-            lampughjata_async_return(
-                lift_memory,
-                lift_async,
-                lower_memory,
-                lower_async,
-                table,
-                rows,
-                first,
-                second,
-                k,
-            )
+        Question::Signature(asked, k) => {
+            signature_number(signature_of(asked, table, rows, first, second), k)
         }
         Question::ContainsBorrow => lampughjata_contains_borrow(table, rows, first),
     }

@@ -2,11 +2,16 @@
 ghost use mathlib.Core.Path.{_≡_};
 ghost use Rattle.canon.specs.Question.{borrowAnswer};
 ghost use Rattle.canon.specs.Signature.{flattenAnswer, loweringAnswer, liftingAnswer, asyncStartAnswer, asyncReturnAnswer};
+ghost use Rattle.canon.specs.Functype.{functypeAnswer};
 ghost use Rattle.signature.specs.Packs.{packedFlattened, packedAnswer};
 ghost use Rattle.words.specs.Words.{wholeWords};
-ghost use Rattle.host.specs.Numbers.{memoryAt, sideAt, answerNumber, yesNumber, chosen, flattenedNumber, signatureLists};
+ghost use Rattle.host.specs.Numbers.{memoryAt, isSet, sideAt, contextAt, answerNumber, yesNumber, chosen, flattenedNumber, signatureLists};
+use crate::given::context_at;
+use crate::given::is_set;
+use crate::given::side_at;
 use crate::question::Question;
 use crate::question::ask_bytes;
+use signature::SignatureQuestion;
 
 #[no_mangle]
 pub extern "C" fn lampughjata_flatten_bytes(
@@ -63,8 +68,10 @@ pub extern "C" fn lampughjata_async_start_bytes(
 ) -> u64
     ensures { λ r. ⌜ r ≡ answerNumber (λ s. chosen k (signatureLists s)) (packedAnswer (asyncStartAnswer (wholeWords (now (table .entry))) rows (sideAt «lower_memory» «lower_async») (wholeWords (now (lowered .entry))) (sideAt «lift_memory» 0) (wholeWords (now (lifted .entry))))) ⌝ }
 {
-    let question = Question::AsyncStart(lower_memory, lower_async, lift_memory, k);
-    ask_bytes(question, table, rows, lowered, lifted)
+    let lower_side = side_at(lower_memory, lower_async);
+    let lift_side = side_at(lift_memory, 0);
+    let asked = SignatureQuestion::AsyncStart(lower_side, lift_side);
+    ask_bytes(Question::Signature(asked, k), table, rows, lowered, lifted)
 }
 
 #[no_mangle]
@@ -81,8 +88,31 @@ pub extern "C" fn lampughjata_async_return_bytes(
 ) -> u64
     ensures { λ r. ⌜ r ≡ answerNumber (λ s. chosen k (signatureLists s)) (packedAnswer (asyncReturnAnswer (wholeWords (now (table .entry))) rows (sideAt «lift_memory» «lift_async») (wholeWords (now (lifted .entry))) (sideAt «lower_memory» «lower_async») (wholeWords (now (lowered .entry))))) ⌝ }
 {
-    let question = Question::AsyncReturn(lift_memory, lift_async, lower_memory, lower_async, k);
-    ask_bytes(question, table, rows, lifted, lowered)
+    let lift_side = side_at(lift_memory, lift_async);
+    let lower_side = side_at(lower_memory, lower_async);
+    let asked = SignatureQuestion::AsyncReturn(lift_side, lower_side);
+    ask_bytes(Question::Signature(asked, k), table, rows, lifted, lowered)
+}
+
+#[no_mangle]
+pub extern "C" fn lampughjata_functype_bytes(
+    memory: u32,
+    async_: u32,
+    lower: u32,
+    callback: u32,
+    table: &[u8],
+    rows: u32,
+    params: &[u8],
+    results: &[u8],
+    k: u32,
+) -> u64
+    ensures { λ r. ⌜ r ≡ answerNumber (λ s. chosen k (signatureLists s)) (packedAnswer (functypeAnswer (wholeWords (now (table .entry))) rows (contextAt lower) (sideAt memory «async_») (isSet callback) (wholeWords (now (params .entry))) (wholeWords (now (results .entry))))) ⌝ }
+{
+    let context = context_at(lower);
+    let side = side_at(memory, async_);
+    let called_back = is_set(callback);
+    let asked = SignatureQuestion::Functype(context, side, called_back);
+    ask_bytes(Question::Signature(asked, k), table, rows, params, results)
 }
 
 #[no_mangle]

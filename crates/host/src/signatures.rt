@@ -2,8 +2,11 @@
 ghost use mathlib.Core.Path.{_≡_};
 ghost use Rattle.canon.specs.Question.{borrowAnswer};
 ghost use Rattle.canon.specs.Signature.{flattenAnswer, loweringAnswer, liftingAnswer, asyncStartAnswer, asyncReturnAnswer};
+ghost use Rattle.canon.specs.Functype.{functypeAnswer};
 ghost use Rattle.signature.specs.Packs.{packedFlattened, packedAnswer};
-ghost use Rattle.host.specs.Numbers.{memoryAt, sideAt, answerNumber, yesNumber, chosen, flattenedNumber, signatureLists};
+ghost use Rattle.host.specs.Numbers.{memoryAt, isSet, sideAt, contextAt, answerNumber, yesNumber, chosen, flattenedNumber, signatureLists};
+use crate::given::context_at;
+use crate::given::is_set;
 use crate::given::memory_at;
 use crate::given::side_at;
 use crate::packing::borrow_number;
@@ -12,6 +15,7 @@ use crate::packing::signature_number;
 use signature::async_return_signature;
 use signature::async_start_signature;
 use signature::contains_borrow_resource;
+use signature::flatten_functype;
 use signature::flatten_lifting_types;
 use signature::flatten_lowering_types;
 use signature::flatten_types;
@@ -97,6 +101,28 @@ pub extern "C" fn lampughjata_async_return(
     let lift_side = side_at(lift_memory, lift_async);
     let lower_side = side_at(lower_memory, lower_async);
     let answer = async_return_signature(table, rows, lift_side, lifted, lower_side, lowered);
+    signature_number(answer, k)
+}
+
+// Refuses TooLong for either list, then BadRow for the table, then the first bad reference of the parameters, then of the results.
+#[no_mangle]
+pub extern "C" fn lampughjata_functype(
+    memory: u32,
+    async_: u32,
+    lower: u32,
+    callback: u32,
+    table: &[u32],
+    rows: u32,
+    params: &[u32],
+    results: &[u32],
+    k: u32,
+) -> u64
+    ensures { λ r. ⌜ r ≡ answerNumber (λ s. chosen k (signatureLists s)) (packedAnswer (functypeAnswer (now (table .entry)) rows (contextAt lower) (sideAt memory «async_») (isSet callback) (now (params .entry)) (now (results .entry)))) ⌝ }
+{
+    let context = context_at(lower);
+    let side = side_at(memory, async_);
+    let called_back = is_set(callback);
+    let answer = flatten_functype(context, side, called_back, table, rows, params, results);
     signature_number(answer, k)
 }
 

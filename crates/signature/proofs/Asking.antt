@@ -4,20 +4,26 @@ use mathlib.Core.Bool.{Bool, true, false, cond, _||_}
 use mathlib.Core.List.{List}
 use mathlib.Core.Option.{Option}
 use Prim.Native.Nat.{ℕ, _≤_, _<_}
+use lib.Dec.{eqb}
 use lib.ListN.{length}
 use borrow.Author.Tests.{le-ltb, lt-ltb}
 use Rattle.canon.specs.Answer.{Answer, ok, refused, then, unless, tooLong, badCount, badRow}
 use Rattle.canon.specs.Layout.{Memory}
 use Rattle.canon.specs.Pack.{Packed}
 use Rattle.canon.specs.Row.{Info}
-use Rattle.canon.specs.Signature.{flatAll, atMost, flattenAnswer, Signature}
+use Rattle.canon.specs.Signature.{flatAll, atMost, flattenAnswer, Signature, asyncStartAnswer, asyncReturnAnswer}
+use Rattle.canon.specs.Functype.{functypeAnswer}
 use Rattle.canon.specs.Types.{Core}
 use Rattle.canon.specs.Question.{read, infos, tooMany, noTable, ask, askTwo, anyBorrow, borrowAnswer}
 use Rattle.canon.proofs.Tests.{impossible}
 use Rattle.questions.specs.Gathers.{Together, together, gatherAnswer, Two, togetherTwo, gatherTwoAnswer}
 use Rattle.flat_types.specs.Lists.{unpacked, packed}
-use Rattle.signature.proofs.Maxima.{whole-packed, at-most-packed}
+use Rattle.signature.proofs.Maxima.{whole-packed, at-most-packed, start-packed, return-packed, functype-packed}
+use Rattle.signature.specs.Means.{contextMeans, sideMeans, questionAnswer}
 use Rattle.signature.specs.Packs.{packedFlat, packedFlattened, packedSignature, packedAnswer, badMaximum}
+use Rattle.signature.specs.Questions.{firstMemory, secondMemory, madeOf}
+use Rattle.signature.specs.declared.question.SignatureQuestion.{SignatureQuestion}
+use Rattle.signature.specs.declared.question.SignatureQuestion.the-variants as question
 
 -- One list
 
@@ -117,3 +123,19 @@ module _ (t : List ℕ) (n : ℕ) (a b : Memory) (vs ws : List ℕ) where
             whole-packed (flatAll a is′) (l .first .flat) (ap (λ (x : Two). x .first .flat) f),
             whole-packed (flatAll b js) (l .second .flat) (ap (λ (x : Two). x .second .flat) f),
           )
+
+-- A question as a value
+
+pub question-two :
+    (x : SignatureQuestion) (t : List ℕ) (n : ℕ) (vs ws : List ℕ) →
+    questionAnswer x t n vs ws ≡ askTwo t n vs ws (λ is′ js. ok (madeOf x (flatAll (firstMemory x) is′) (flatAll (secondMemory x) js) (eqb (length ws) 0)))
+unfolding asyncStartAnswer asyncReturnAnswer functypeAnswer
+question-two (question.AsyncStart lower lift) t n vs ws = refl
+question-two (question.AsyncReturn lift lower) t n vs ws = refl
+question-two (question.Functype c s callback) t n vs ws = refl
+
+pub made-packed :
+    (x : SignatureQuestion) (isEmpty : Bool) (o q : Option (List Core)) → madeOf x (unpacked (packed o)) (unpacked (packed q)) isEmpty ≡ madeOf x o q isEmpty
+made-packed (question.AsyncStart lower lift) isEmpty o q = start-packed (sideMeans lower) (sideMeans lift) o q
+made-packed (question.AsyncReturn lift lower) isEmpty o q = return-packed (sideMeans lift) (sideMeans lower) isEmpty o q
+made-packed (question.Functype c s callback) isEmpty o q = functype-packed (contextMeans c) (sideMeans s) callback o q

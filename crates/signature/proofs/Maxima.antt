@@ -13,7 +13,9 @@ use Rattle.canon.specs.Layout.{Memory, mem32, mem64}
 use Rattle.canon.specs.Flat.{ptrType}
 use Rattle.canon.specs.Pack.{Packed, code, pack}
 use Rattle.canon.specs.Signature.{listed, inMemory, atMost, Side, liftingMax, paramsMax, orPointer, startOf, behindPointer, listOrNone, returnOf}
+use Rattle.canon.specs.Functype.{Context, functypeOf}
 use Rattle.canon.specs.Types.{Core}
+use Rattle.canon.proofs.Signatures.{maximum-small, functype-alike}
 use Rattle.flat_types.specs.Lists.{unpacked, packedTo, packed}
 use Rattle.flat_types.specs.Places.{appendTo}
 use Rattle.flat_types.proofs.Listing.{packed-some, packed-none, list-packed}
@@ -59,15 +61,6 @@ unfolding appendTo pack
 pointer-alone mem32 = refl
 pointer-alone mem64 = refl
 
-pub params-short : (m : Memory) (max : ℕ) (o : Option (List Core)) → max ≤ 16 → length (orPointer m (atMost max o)) ≤ 16
-unfolding orPointer atMost
-params-short m max none h = omega arith
-params-short m max (some l) h = go (leb (length l) max) refl
-  where
-    go : (b : Bool) → leb (length l) max ≡ b → length (orPointer m (cond b (listed l) inMemory)) ≤ 16
-    go true e = omega (arith, leb-true (length l) max e)
-    go false e = omega arith
-
 -- a pointer behind the parameters
 pub pointer-behind :
     (m : Memory) (l : List Core) (w r : Packed) → length l ≤ 16 → w ≡ packedList l →
@@ -94,11 +87,6 @@ module _ (o : Option (List Core)) (w : Packed) (e : w ≡ packed o) where
   pub results-none : 1 < w .number → record { number = 0; types = 0 } ≡ packedList (listOrNone (atMost 1 o))
   unfolding pack
   results-none h = rw (is-beyond o 1 w e (omega arith) h)
-
--- each of the two maxima is one that a list may have
-pub maximum-small : (b : Bool) (x y : ℕ) → x ≤ 16 → y ≤ 16 → cond b x y ≤ 16
-maximum-small true x y h g = h
-maximum-small false x y h g = g
 
 -- What was gathered
 
@@ -140,3 +128,9 @@ pub return-packed :
 unfolding returnOf
 return-packed lift lower empty o q =
     rw (at-most-packed (liftingMax (lift .async)) o (maximum-small (lift .async) 16 1 (omega arith) (omega arith)), at-most-packed 1 q (omega arith))
+
+pub functype-packed :
+    (c : Context) (s : Side) (callback : Bool) (o q : Option (List Core)) →
+    functypeOf c s callback (unpacked (packed o)) (unpacked (packed q)) ≡ functypeOf c s callback o q
+functype-packed c s callback o q =
+    functype-alike c s callback _ _ _ _ (λ max small. at-most-packed max o small) (λ max small. at-most-packed max q small)

@@ -19,12 +19,16 @@ use Rattle.signature.specs.declared.flatten.Flattened.{Flattened}
 use Rattle.signature.specs.declared.flatten.Flattened.the-variants as flattened
 use Rattle.signature.specs.declared.flatten.BorrowAnswer.{BorrowAnswer}
 use Rattle.signature.specs.declared.flatten.BorrowAnswer.the-variants as borrowed
+use Rattle.signature.specs.declared.functype.Context.{Context}
+use Rattle.signature.specs.declared.question.SignatureQuestion.{SignatureQuestion}
 use Rattle.signature.specs.declared.signatures.SignatureAnswer.{SignatureAnswer}
 use Rattle.signature.specs.declared.signatures.SignatureAnswer.the-variants as answer
 use Rattle.signature.proofs.flatten.flatten_types.Reads as flatten-types
 use Rattle.signature.proofs.flatten.flatten_lowering_types.Reads as flatten-lowering-types
 use Rattle.signature.proofs.flatten.flatten_lifting_types.Reads as flatten-lifting-types
 use Rattle.signature.proofs.flatten.contains_borrow_resource.Reads as contains-borrow-resource
+use Rattle.signature.proofs.functype.flatten_functype.Reads as flatten-functype
+use Rattle.signature.proofs.question.signature_of.Reads as signature-of
 use Rattle.signature.proofs.signatures.async_start_signature.Reads as async-start-signature
 use Rattle.signature.proofs.signatures.async_return_signature.Reads as async-return-signature
 
@@ -95,3 +99,15 @@ pub async-return-signature-one :
     async-return-signature.Post κs (t, (n, (a, (vs, (b, (ws, tt)))))) r (t, (n, (a, (vs, (b, (ws, tt)))))) →
     async-return-signature.Post κs (t, (n, (a, (vs, (b, (ws, tt)))))) q (t, (n, (a, (vs, (b, (ws, tt)))))) → r ≡ q
 async-return-signature-one κs t n a vs b ws r q g h = told signatureAnswerMeans answerOf answer-back r q (g ∙ sym h)
+
+pub flatten-functype-one :
+    (κs : Lfts 3) (c : Context) (s : Side) (callback : Bool) (t : RefT (List ℕ)) (n : ℕ) (vs ws : RefT (List ℕ)) (r q : SignatureAnswer) →
+    flatten-functype.Post κs (c, (s, (callback, (t, (n, (vs, (ws, tt))))))) r (c, (s, (callback, (t, (n, (vs, (ws, tt))))))) →
+    flatten-functype.Post κs (c, (s, (callback, (t, (n, (vs, (ws, tt))))))) q (c, (s, (callback, (t, (n, (vs, (ws, tt))))))) → r ≡ q
+flatten-functype-one κs c s callback t n vs ws r q g h = told signatureAnswerMeans answerOf answer-back r q (g ∙ sym h)
+
+pub signature-of-one :
+    (κs : Lfts 3) (x : SignatureQuestion) (t : RefT (List ℕ)) (n : ℕ) (vs ws : RefT (List ℕ)) (r q : SignatureAnswer) →
+    signature-of.Post κs (x, (t, (n, (vs, (ws, tt))))) r (x, (t, (n, (vs, (ws, tt))))) →
+    signature-of.Post κs (x, (t, (n, (vs, (ws, tt))))) q (x, (t, (n, (vs, (ws, tt))))) → r ≡ q
+signature-of-one κs x t n vs ws r q g h = told signatureAnswerMeans answerOf answer-back r q (g ∙ sym h)

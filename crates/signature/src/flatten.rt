@@ -86,7 +86,7 @@ pub fn flatten_types(
     }
 }
 
-fn lowering_max(async_: bool) -> u32
+pub(crate) fn lowering_max(async_: bool) -> u32
     ensures { λ r. ⌜ r ≡ loweringMax «async_» ⌝ }
 {
     if async_ { 0 } else { MAX_FLAT_RESULTS }

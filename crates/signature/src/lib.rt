@@ -1,6 +1,8 @@
 // Answers the core signatures of lifted and lowered functions, over a table and lent lists of references.
 mod flatten;
+mod functype;
 mod lists;
+mod question;
 mod signatures;
 
 pub use flatten::BorrowAnswer;
@@ -13,6 +15,10 @@ pub use flatten::contains_borrow_resource;
 pub use flatten::flatten_lifting_types;
 pub use flatten::flatten_lowering_types;
 pub use flatten::flatten_types;
+pub use functype::Context;
+pub use functype::flatten_functype;
+pub use question::SignatureQuestion;
+pub use question::signature_of;
 pub use signatures::Signature;
 pub use signatures::SignatureAnswer;
 pub use signatures::async_return_signature;

@@ -1,6 +1,6 @@
 // Answers the signatures of a call's start and of its return.
 ghost use mathlib.Core.Path.{_≡_};
-ghost use Rattle.canon.specs.Signature.{atMost, paramsMax, behindPointer, returnOf, asyncStartAnswer, asyncReturnAnswer};
+ghost use Rattle.canon.specs.Signature.{atMost, paramsMax, startOf, behindPointer, returnOf, asyncStartAnswer, asyncReturnAnswer};
 ghost use Rattle.flat_types.specs.Lists.{flat};
 ghost use Rattle.signature.specs.Means.{sideMeans, signatureMeans, signatureAnswerMeans};
 ghost use Rattle.signature.specs.Packs.{packedSignature, packedAnswer, Whole};
@@ -27,13 +27,25 @@ pub enum SignatureAnswer {
     Refused(Refusal, MemberPosition),
 }
 
-fn params_max(async_: bool) -> u32
+pub(crate) fn params_max(async_: bool) -> u32
     ensures { λ r. ⌜ r ≡ paramsMax «async_» ⌝ }
 {
     if async_ {
         MAX_FLAT_ASYNC_PARAMS
     } else {
         MAX_FLAT_PARAMS
+    }
+}
+
+pub(crate) fn start_of(lower: Side, params: FlatList, lift: Side, results: FlatList) -> Signature
+    requires { ⌜ Whole params × Whole results ⌝ }
+    ensures { λ r. ⌜ signatureMeans r ≡ packedSignature (startOf (sideMeans lower) (flat params) (sideMeans lift) (flat results)) ⌝ }
+{
+    let lower_memory = lower.memory;
+    let lift_memory = lift.memory;
+    Signature {
+        params: or_pointer(lower_memory, params_max(lower.async_), params),
+        results: or_pointer(lift_memory, MAX_FLAT_PARAMS, results),
     }
 }
 
@@ -51,10 +63,9 @@ pub fn async_start_signature(
     let lower_memory = lower.memory;
     let lift_memory = lift.memory;
     match gather_two(table, n, lower_memory, lowered, lift_memory, lifted) {
-        GatheredTwo::Both(params, results) => SignatureAnswer::Signature(Signature {
-            params: or_pointer(lower_memory, params_max(lower.async_), params.flat),
-            results: or_pointer(lift_memory, MAX_FLAT_PARAMS, results.flat),
-        }),
+        GatheredTwo::Both(params, results) => {
+            SignatureAnswer::Signature(start_of(lower, params.flat, lift, results.flat))
+        }
         GatheredTwo::Refused(why, position) => SignatureAnswer::Refused(why, position),
     }
 }
@@ -72,7 +83,13 @@ fn behind_pointer(async_: bool, empty: bool, lowered: FlatList) -> bool
 }
 
 // `empty` is whether lower has no references: a record of nothing is one.
-fn return_of(lift: Side, lifted: FlatList, lower: Side, lowered: FlatList, empty: bool) -> Signature
+pub(crate) fn return_of(
+    lift: Side,
+    lifted: FlatList,
+    lower: Side,
+    lowered: FlatList,
+    empty: bool,
+) -> Signature
     requires { ⌜ Whole lifted × Whole lowered ⌝ }
     ensures { λ r. ⌜ signatureMeans r ≡ packedSignature (returnOf (sideMeans lift) (flat lifted) (sideMeans lower) (flat lowered) empty) ⌝ }
 {

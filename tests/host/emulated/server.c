@@ -68,6 +68,9 @@ static u64 over_numbers(u32 function, const u32 *x)
             return lampughjata_async_return##SUFFIX(x[0], x[1], x[2], x[3], a, la, x[4], b, lb, c, lc,  \
                                                     x[5]);                                              \
         case 20: return lampughjata_contains_borrow##SUFFIX(a, la, x[0], b, lb);                        \
+        case 21:                                                                                        \
+            return lampughjata_functype##SUFFIX(x[0], x[1], x[2], x[3], a, la, x[4], b, lb, c, lc,      \
+                                                x[5]);                                                  \
         default: return over_numbers(function, x);                                                      \
         }                                                                                               \
     }

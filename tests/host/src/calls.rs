@@ -91,6 +91,21 @@ pub enum Question {
     ContainsBorrow {
         references: Vec<u32>,
     },
+    /// The core signature of a plain call (order 1): how it is called, the function's types, and which half.
+    Functype {
+        plain: PlainCall,
+        params: Vec<u32>,
+        results: Vec<u32>,
+        k: u32,
+    },
+}
+
+/// How a function is called without an adapter, by the boundary's numbers.
+#[derive(Clone, Copy, Debug)]
+pub struct PlainCall {
+    pub side: Side,
+    pub lower: u32,
+    pub callback: u32,
 }
 
 /// The most buffers that a call is lent to write: a placement's offsets and its gaps.
@@ -117,6 +132,9 @@ impl Question {
                 lower_types,
                 ..
             } => [lift_types, lower_types],
+            Question::Functype {
+                params, results, ..
+            } => [params, results],
         }
     }
 

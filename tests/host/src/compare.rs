@@ -175,6 +175,7 @@ impl Run {
         let apart = held.any(|index| subject.suspects.get(index) == Some(&true));
         let mut outcome = original::ask(original, question);
         Fault::original_gaps(self.fault, &mut outcome);
+        Fault::original_params(self.fault, question, &mut outcome);
         // The original has no rows read back.
         let without_reads = match question {
             Question::Placement { .. } => encode::PLACEMENT_READS.without(said),

@@ -9,7 +9,7 @@ use crate::port::{Call, Cell, Function};
 use Function::*;
 
 /// Each function, and the refusals that 01 has for it.
-const REFUSALS: [(Function, &[u64]); 21] = [
+const REFUSALS: [(Function, &[u64]); 22] = [
     (AlignTo, &[6, 8]),
     (Max, &[]),
     (AddFlat, &[]),
@@ -31,6 +31,7 @@ const REFUSALS: [(Function, &[u64]); 21] = [
     (AsyncStart, &[1, 4, 8]),
     (AsyncReturn, &[1, 4, 8]),
     (ContainsBorrow, &[1, 4, 8]),
+    (Functype, &[1, 4, 8]),
 ];
 
 /// The most numbers that a call's k chooses from, and one more for a k above the last.

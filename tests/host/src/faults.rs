@@ -9,6 +9,7 @@ use crate::port::{Answered, Call, Cell, Function};
 use crate::reading;
 use std::collections::HashSet;
 
+mod functype;
 mod padding;
 
 /// What is wrong on purpose.
@@ -107,6 +108,36 @@ pub enum Fault {
     OriginalGap,
     /// The gap after the last member that follows from the original's size is one too great.
     OriginalAfter,
+    /// An async lift takes four flat parameters at most, as an async lower does.
+    LiftTakesFour,
+    /// An async lower takes sixteen flat parameters, as every other call does.
+    LowerTakesSixteen,
+    /// What an async call returns is a pointer in a 64-bit memory.
+    WideStatus,
+    /// A callback's I32 is returned by a sync lift too.
+    SyncStatus,
+    /// An async lift returns an I32 without a callback.
+    StatusAlways,
+    /// An async lower gets a pointer for each result list that is not empty (01's async return).
+    PointerToNothing,
+    /// An async lower gets no pointer for results without a flat count.
+    NoneIsNothing,
+    /// The same where by the standard, which has no such count, there are no flat types.
+    StandardsNothing,
+    /// A sync lift appends a pointer parameter for a large result.
+    LiftAppends,
+    /// A sync lower whose parameters are behind a pointer has none to its results.
+    OnePointer,
+    /// The appended pointer counts among the parameters, and they go behind a pointer.
+    PointerCounted,
+    /// Results are tested before parameters.
+    ResultsFirst,
+    /// The positions of results begin anew.
+    PositionsAnew,
+    /// Only 1 is taken for a yes.
+    OnlyOne,
+    /// The last parameter that the original's parts give is lost.
+    OriginalParams,
     /// The port's built rows have the memories exchanged, after the comparison, so that they agree with the model.
     PortMemories,
     /// The same of the original's.
@@ -117,7 +148,7 @@ pub enum Fault {
     OriginalList,
 }
 
-pub const FAULTS: [Fault; 50] = [
+pub const FAULTS: [Fault; 65] = [
     Fault::OffsetOneOff,
     Fault::PositionOneOff,
     Fault::TableWord,
@@ -164,6 +195,21 @@ pub const FAULTS: [Fault; 50] = [
     Fault::PortSum,
     Fault::OriginalGap,
     Fault::OriginalAfter,
+    Fault::LiftTakesFour,
+    Fault::LowerTakesSixteen,
+    Fault::WideStatus,
+    Fault::SyncStatus,
+    Fault::StatusAlways,
+    Fault::PointerToNothing,
+    Fault::NoneIsNothing,
+    Fault::StandardsNothing,
+    Fault::LiftAppends,
+    Fault::OnePointer,
+    Fault::PointerCounted,
+    Fault::ResultsFirst,
+    Fault::PositionsAnew,
+    Fault::OnlyOne,
+    Fault::OriginalParams,
     Fault::PortMemories,
     Fault::OriginalMemories,
     Fault::OriginalSize,
@@ -196,6 +242,7 @@ impl Fault {
                     *table = &table[..left];
                 }
             }
+            (Some(fault), Function::Functype) => fault.before_functype(call),
             _ => {}
         }
     }
@@ -206,6 +253,7 @@ impl Fault {
             fault.in_memory(answered);
             fault.in_depths(answered);
             fault.in_padding(answered);
+            fault.in_functype(&answered.call, &mut answered.answer);
             fault.in_reads(&answered.call, &mut answered.answer);
             fault.in_answer(&answered.call, &mut answered.answer);
         }

@@ -181,6 +181,22 @@ pub fn references(random: &mut Random, n: u32, count: u64, bad_once_in: u64) -> 
     list
 }
 
+/// All lists of up to so many words of an alphabet, shorter ones first.
+pub fn every_list(alphabet: &[u32], longest: usize) -> Vec<Vec<u32>> {
+    let mut lists: Vec<Vec<u32>> = vec![vec![]];
+    let mut begin = 0;
+    for _ in 0..longest {
+        let end = lists.len();
+        for list in begin..end {
+            let longer = |word: &u32| [&lists[list][..], &[*word]].concat();
+            let longer: Vec<_> = alphabet.iter().map(longer).collect();
+            lists.extend(longer);
+        }
+        begin = end;
+    }
+    lists
+}
+
 /// An info: most are well formed, some are large, some break a rule.
 pub fn info(random: &mut Random) -> Info {
     let mut info = [0; 5];

@@ -1,5 +1,5 @@
 //! The original, asked the boundary's calls.
-use crate::calls::{Info, Leaf, Question, Side, WRITTEN};
+use crate::calls::{Info, Leaf, PlainCall, Question, Side, WRITTEN};
 use crate::encode;
 use oracle::component::{CanonicalAbiInfo, InterfaceType, VariantInfo, types_opened};
 use oracle::{Flat, Original, guarded};
@@ -189,6 +189,66 @@ pub fn ask(original: &mut Original, question: &Question) -> Outcome {
         Question::ContainsBorrow { .. } => {
             Outcome::of(original.contains_borrow(&first, &[]).map(u64::from))
         }
+        Question::Functype { plain, k, .. } => {
+            let both = functype(original, *plain, &first, &second);
+            is(list(encode::half(both, *k)))
+        }
+    }
+}
+
+/// It has no such function: its `signature` reads back a core type that it is given. Its parts are asked.
+///
+/// The original's: what is passed of the parameters, at its own maxima and with its own pointer, since the halves of
+/// `async_start_signature` are a lower's parameters and a lift's; whether the results go through memory, and their types if
+/// not, by `flatten_lowering_types` and `flatten_lifting_types`. Put together here, by the standard: where the pointer to
+/// results goes, its type, and what an async call returns.
+fn functype(
+    original: &mut Original,
+    plain: PlainCall,
+    params: &[InterfaceType],
+    results: &[InterfaceType],
+) -> [Flat; 2] {
+    let side = side_of(plain.side);
+    let pointer = Flat {
+        count: 1,
+        packed: side.memory64.into(),
+    };
+    let [of_lower, of_lift] = original.async_start((side, params), (side, params));
+    if plain.lower == 0 {
+        let returned = match (side.asynchronous, plain.callback) {
+            (false, _) => original.lifting(side, results).unwrap_or(pointer),
+            (true, 0) => NOTHING,
+            (true, _) => STATUS,
+        };
+        return [of_lift, returned];
+    }
+    let flat = original.lowering(side, results);
+    let passed = match flat {
+        Some(_) => of_lower,
+        None => append(of_lower, pointer),
+    };
+    let returned = match side.asynchronous {
+        true => STATUS,
+        false => flat.unwrap_or(NOTHING),
+    };
+    [passed, returned]
+}
+
+const NOTHING: Flat = Flat {
+    count: 0,
+    packed: 0,
+};
+
+/// One I32, in either memory.
+const STATUS: Flat = Flat {
+    count: 1,
+    packed: 0,
+};
+
+fn append(first: Flat, second: Flat) -> Flat {
+    Flat {
+        count: first.count + second.count,
+        packed: first.packed | second.packed << (2 * first.count),
     }
 }
 

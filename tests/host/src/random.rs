@@ -41,4 +41,14 @@ impl Random {
     pub fn choice(&mut self) -> u32 {
         self.pick(&[0, 0, 0, 1, 1, 2, 64, u32::MAX])
     }
+
+    /// A number with the second of these meanings.
+    pub fn yes(&mut self) -> u32 {
+        self.pick(&[1, 1, 2, 64, u32::MAX])
+    }
+
+    /// A k that chooses the results of a signature: 1, or a number above it.
+    pub fn of_results(&mut self) -> u32 {
+        self.pick(&[1, 1, 1, 2, u32::MAX])
+    }
 }

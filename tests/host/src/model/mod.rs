@@ -8,6 +8,7 @@
 mod bytes;
 mod definition;
 mod description;
+mod functype;
 mod layout;
 mod leaf;
 mod padding;

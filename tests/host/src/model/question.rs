@@ -1,6 +1,7 @@
 //! 01's questions put to a table.
 use super::definition::definition_named;
-use super::layout::{self, Layout, Memory, Passes, Type};
+use super::functype::{PlainCall, functype};
+use super::layout::{self, Core, Layout, Memory, Passes, Type};
 use super::leaf::info_number;
 use super::signature::{self, Side};
 use super::table::{self, capacity};
@@ -61,32 +62,38 @@ pub fn ask(
         Question::AsyncStart {
             lower,
             lift_memory,
-            lower_types,
-            lift_types,
             k,
-        } => {
-            let lists = table.read(&[lower_types, lift_types], None)?;
-            let lift_memory = Memory::of(*lift_memory);
-            let both = signature::async_start(Side::of(*lower), &lists[0], lift_memory, &lists[1]);
-            Ok(encode::list(&encode::half(both, *k)))
+            ..
+        } => half(&table, question, *k, |params, results| {
+            let (lower, lift_memory) = (Side::of(*lower), Memory::of(*lift_memory));
+            signature::async_start(lower, params, lift_memory, results)
+        }),
+        Question::AsyncReturn { lift, lower, k, .. } => {
+            half(&table, question, *k, |params, results| {
+                let (lift, lower) = (Side::of(*lift), Side::of(*lower));
+                signature::async_return(lift, params, lower, results)
+            })
         }
-        Question::AsyncReturn {
-            lift,
-            lower,
-            lift_types,
-            lower_types,
-            k,
-        } => {
-            let lists = table.read(&[lift_types, lower_types], None)?;
-            let (lift, lower) = (Side::of(*lift), Side::of(*lower));
-            let both = signature::async_return(lift, &lists[0], lower, &lists[1]);
-            Ok(encode::list(&encode::half(both, *k)))
-        }
+        Question::Functype { plain, k, .. } => half(&table, question, *k, |params, results| {
+            functype(PlainCall::of(*plain), params, results)
+        }),
         Question::ContainsBorrow { references } => {
             let lists = table.read(&[references], None)?;
             Ok(u64::from(lists[0].iter().any(|ty| ty.borrow)))
         }
     }
+}
+
+/// Of a signature over the types of the question's two lists, the half that k chooses.
+fn half(
+    table: &Table,
+    question: &Question,
+    k: u32,
+    signature: impl Fn(&[Type], &[Type]) -> [Vec<Core>; 2],
+) -> Answer<u64> {
+    let lists = table.read(&question.lists(), None)?;
+    let both = signature(&lists[0], &lists[1]);
+    Ok(encode::list(&encode::half(both, k)))
 }
 
 /// "TooLarge names the first member whose start or end passes, 0 if only the size does." What is accepted

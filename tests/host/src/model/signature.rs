@@ -4,8 +4,8 @@ use crate::calls;
 
 #[derive(Clone, Copy)]
 pub struct Side {
-    memory: Memory,
-    asynchronous: bool,
+    pub memory: Memory,
+    pub asynchronous: bool,
 }
 
 impl Side {

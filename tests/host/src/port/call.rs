@@ -1,6 +1,6 @@
 //! One call of the boundary as numbers and lent memory.
 pub use crate::calls::WRITTEN;
-use crate::calls::{Leaf, Question};
+use crate::calls::{Leaf, Question, Side};
 use crate::compare::GUARD;
 use crate::encode::{BUILD_READS, Bits, PLACEMENT_READS};
 use std::fmt;
@@ -31,6 +31,7 @@ pub enum Function {
     AsyncStart = 18,
     AsyncReturn = 19,
     ContainsBorrow = 20,
+    Functype = 21,
 }
 
 impl Function {
@@ -69,7 +70,7 @@ impl Function {
             Function::Variant => Some((0, 7)),
             Function::Type => Some((2, 8)),
             Function::AsyncStart => Some((4, 1)),
-            Function::AsyncReturn => Some((5, 1)),
+            Function::AsyncReturn | Function::Functype => Some((5, 1)),
             _ => None,
         }
     }
@@ -228,6 +229,14 @@ pub fn question<'a>(
             (Function::AsyncReturn, numbers(&given))
         }
         Question::ContainsBorrow { .. } => (Function::ContainsBorrow, numbers(&[n])),
+        Question::Functype { plain, k, .. } => {
+            let Side {
+                memory,
+                asynchronous,
+            } = plain.side;
+            let given = [memory, asynchronous, plain.lower, plain.callback, n, k];
+            (Function::Functype, numbers(&given))
+        }
     };
     Call {
         function,

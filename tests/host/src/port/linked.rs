@@ -43,6 +43,9 @@ macro_rules! run_over {
                         x[0], x[1], x[2], x[3], a, a_len, x[4], b, b_len, c, c_len, x[5],
                     ),
                     Function::ContainsBorrow => port::contains_borrow(a, a_len, x[0], b, b_len),
+                    Function::Functype => port::functype(
+                        x[0], x[1], x[2], x[3], a, a_len, x[4], b, b_len, c, c_len, x[5],
+                    ),
                     _ => over_numbers(function, x),
                 }
             }

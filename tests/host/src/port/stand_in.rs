@@ -2,7 +2,7 @@
 //! Nothing is then learnt about the port.
 use super::call::{NUMBERS, WRITTEN};
 use super::{Call, Cell, Due, Function};
-use crate::calls::{Leaf, Question, Side};
+use crate::calls::{Leaf, PlainCall, Question, Side};
 use crate::compare::bytes_of;
 use crate::model::words_of;
 use crate::{encode, model};
@@ -114,12 +114,12 @@ fn question(
             let side = side(a, b);
             (Question::Lifting { side, references }, c)
         }
-        _ => of_two_sides(function, numbers, references, others),
+        _ => of_two_lists(function, numbers, references, others),
     }
 }
 
-/// The same of an async signature.
-fn of_two_sides(
+/// The same of a signature.
+fn of_two_lists(
     function: Function,
     numbers: [u32; NUMBERS],
     references: Vec<u32>,
@@ -137,7 +137,7 @@ fn of_two_sides(
             },
             d,
         ),
-        _ => (
+        Function::AsyncReturn => (
             Question::AsyncReturn {
                 lift: side(a, b),
                 lower: side(c, d),
@@ -147,6 +147,22 @@ fn of_two_sides(
             },
             e,
         ),
+        _ => {
+            let plain = PlainCall {
+                side: side(a, b),
+                lower: c,
+                callback: d,
+            };
+            (
+                Question::Functype {
+                    plain,
+                    params: references,
+                    results: others,
+                    k: f,
+                },
+                e,
+            )
+        }
     }
 }
 

@@ -1,8 +1,9 @@
 //! 01's examples and order 4's, with the papers' own numbers written out, depths by order 5's rule, and whole
 //! tables in order 11's columns. What the three say is compared as anywhere; here the model's answers are held
 //! to the papers too.
+use super::questions::{self, answer_is};
 use crate::calls::{Question, Side, WRITTEN};
-use crate::compare::{Built, Run, Subject};
+use crate::compare::{Built, Run};
 use crate::generate::chain;
 use crate::model::{Answer, Refused};
 use crate::{encode, model};
@@ -31,7 +32,7 @@ pub fn run(run: &mut Run) {
     row_is(run, &built, 0, &[0, 1, 2, 3, 4, 5], &[3, 8, 4, 16, 8, 2]);
     row_is(run, &built, 1, &[0, 1, 2, 3, 4, 5], &[1, 16, 4, 24, 8, 5]);
     row_is(run, &built, 2, &[0, 1, 2, 3, 4, 5], &[8, 20, 4, 32, 8, 6]);
-    super::questions::every(run, &mut built.subject);
+    questions::every(run, &mut built.subject);
     columns(run);
     depths(run);
     chains(run);
@@ -240,7 +241,7 @@ fn words_15_are(run: &mut Run, words: &[u32], numbers: &[u32]) {
     let mut built = accepted(run, words, numbers.len() as u64);
     for (row, number) in numbers.iter().enumerate() {
         row_is(run, &built, row, &[15], &[*number]);
-        super::questions::whole_type(run, &mut built.subject, 64 + row as u32);
+        questions::whole_type(run, &mut built.subject, 64 + row as u32);
     }
 }
 
@@ -341,18 +342,6 @@ fn row_is(run: &mut Run, built: &Built, row: usize, words: &[usize], numbers: &[
     run.tally.consistent(found == numbers, || {
         format!("01's example: words {words:?} of row {row} are {numbers:?}, the model's {found:?}")
     });
-}
-
-/// Asks, and holds the model's answer to the paper; the offsets that the model writes for a placement.
-fn answer_is(run: &mut Run, subject: &mut Subject, question: &Question, answer: u64) -> Vec<u32> {
-    run.ask(subject, question);
-    let [mut offsets, mut gaps] = question.rooms().map(|room| vec![0; room.unwrap_or(0)]);
-    let written = [&mut offsets[..], &mut gaps];
-    let said = encode::answer(model::ask(question, &subject.table, subject.n, written));
-    run.tally.consistent(said == answer, || {
-        format!("01's example {question:?} is {answer:#x}; the model says {said:#x}")
-    });
-    offsets
 }
 
 /// By the paper's offsets, size and alignment, and the gap after the last; the other gaps are in `padding`.

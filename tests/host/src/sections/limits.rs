@@ -146,6 +146,7 @@ fn lists_of_each_length(run: &mut Run, subject: &mut Subject) {
             questions::lists(run, subject, &long, &[2]);
             questions::lists(run, subject, &[2], &long);
             many_rooms(run, subject, &long);
+            twice(run, subject, &long);
         }
         // The bad reference is at the very end.
         let mut long = vec![2; length];
@@ -172,6 +173,10 @@ fn many_rooms(run: &mut Run, subject: &mut Subject, references: &[u32]) {
             }
         }
     }
+}
+
+/// Signatures whose two lists are the same.
+fn twice(run: &mut Run, subject: &mut Subject, references: &[u32]) {
     for k in [0, 1] {
         let lift = Side {
             memory: 1,
@@ -190,4 +195,5 @@ fn many_rooms(run: &mut Run, subject: &mut Subject, references: &[u32]) {
         };
         run.ask(subject, &question);
     }
+    questions::plain_calls(run, subject, references, references);
 }

@@ -1,9 +1,11 @@
 //! What is compared, section by section.
 use crate::compare::Run;
+use crate::model::{Answer, Refused};
 
 mod beyond;
 mod depth;
 mod examples;
+mod functype;
 mod leaves;
 mod limits;
 mod padding;
@@ -16,7 +18,7 @@ mod tables;
 mod ways;
 
 /// A section's name and what it runs.
-pub const SECTIONS: [(&str, fn(&mut Run)); 16] = [
+pub const SECTIONS: [(&str, fn(&mut Run)); 17] = [
     ("01's examples", examples::run),
     ("leaves over numbers", leaves::numbers),
     ("leaves over infos", leaves::infos),
@@ -33,4 +35,9 @@ pub const SECTIONS: [(&str, fn(&mut Run)); 16] = [
     ("short and long over bytes", ways::run),
     ("rows read back", reads::run),
     ("padding", padding::run),
+    ("plain calls", functype::run),
 ];
+
+fn refusal<T>(number: u64, at: u64) -> Answer<T> {
+    Err(Refused { number, at })
+}

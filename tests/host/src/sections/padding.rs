@@ -1,10 +1,11 @@
 //! Order 10: what roundings skip and the gaps of placements. The model is held to numbers that come from the
 //! order; each call over lent memory is made over bytes too.
-use super::questions;
+use super::{questions, refusal};
 use crate::calls::{Info, Leaf, Question, WRITTEN};
 use crate::compare::{Run, Subject};
 use crate::encode::{self, PLACEMENT_READS};
-use crate::model::{self, Answer, MOST_WORDS, ROW, Refused, Row, number, table_of};
+use crate::generate;
+use crate::model::{self, Answer, MOST_WORDS, ROW, Row, number, table_of};
 
 const U8: u32 = 2;
 const U16: u32 = 4;
@@ -373,20 +374,11 @@ fn empty_and_bytes(length: usize) -> (Vec<u32>, Record) {
 /// All short lists of members of each alignment, with bytes and without; no number is written out for these.
 fn every_short_list(run: &mut Run, subject: &mut Subject) {
     const MEMBERS: [u32; 9] = [U8, U16, U32, U64, STRING, EMPTY2, EMPTY4, EMPTY8, PADDED];
-    let longest = if run.quick { 3 } else { 4 };
-    let mut lists: Vec<Vec<u32>> = vec![vec![]];
-    for length in 1..=longest {
-        let longer = |list: &Vec<u32>| MEMBERS.map(|member| [&list[..], &[member]].concat());
-        lists = lists.iter().flat_map(longer).collect();
-        for references in &lists {
-            questions::placement_in(run, subject, 0, references, [length; WRITTEN]);
-            questions::placement_in(run, subject, 1, references, [length; WRITTEN]);
-        }
+    for references in generate::every_list(&MEMBERS, if run.quick { 3 } else { 4 }) {
+        let rooms = [references.len(); WRITTEN];
+        questions::placement_in(run, subject, 0, &references, rooms);
+        questions::placement_in(run, subject, 1, &references, rooms);
     }
-}
-
-fn refusal<T>(number: u64, at: u64) -> Answer<T> {
-    Err(Refused { number, at })
 }
 
 fn leaf_is(run: &mut Run, leaf: &Leaf, due: Result<u64, u64>) {

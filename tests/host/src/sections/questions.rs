@@ -1,7 +1,7 @@
 //! Questions put to a table: every kind, both memories, both async settings.
-use crate::calls::{Question, Side, WRITTEN};
+use crate::calls::{PlainCall, Question, Side, WRITTEN};
 use crate::compare::{Run, Subject};
-use crate::generate;
+use crate::{encode, generate, model};
 
 /// A few random questions of each kind.
 pub fn some(run: &mut Run, subject: &mut Subject) {
@@ -74,20 +74,19 @@ pub fn lists(run: &mut Run, subject: &mut Subject, first: &[u32], second: &[u32]
             signatures(run, subject, side, first, second);
         }
     }
+    plain_calls(run, subject, first, second);
 }
 
 /// Both async signatures, the first list on this side; all settings of the other side over short lists, one
 /// of them over long ones.
 fn signatures(run: &mut Run, subject: &mut Subject, side: Side, first: &[u32], second: &[u32]) {
-    let yes = run.random.pick(&[1, 1, 2, 64, u32::MAX]);
+    let yes = run.random.yes();
     let mut settings = vec![(0, 0), (0, yes), (yes, 0), (yes, yes)];
-    if first.len() + second.len() > 8 {
+    if are_long(first, second) {
         settings = vec![run.random.pick(&settings)];
     }
     for (memory, asynchronous) in settings {
-        // The parameters, and the results by 1 or by a number above it.
-        let results = run.random.pick(&[1, 1, 1, 2, u32::MAX]);
-        for k in [0, results] {
+        for k in [0, run.random.of_results()] {
             let start = Question::AsyncStart {
                 lower: side,
                 lift_memory: memory,
@@ -110,6 +109,67 @@ fn signatures(run: &mut Run, subject: &mut Subject, side: Side, first: &[u32], s
             run.ask(subject, &back);
         }
     }
+}
+
+/// Whether two lists are too long for every setting to be asked.
+fn are_long(first: &[u32], second: &[u32]) -> bool {
+    first.len() + second.len() > 8
+}
+
+/// The core signature of a function with these parameters and results: called in every way over short lists, in one of
+/// them over long ones.
+pub fn plain_calls(run: &mut Run, subject: &mut Subject, params: &[u32], results: &[u32]) {
+    let mut calls = every_plain_call(run.random.yes()).to_vec();
+    if are_long(params, results) {
+        calls = vec![run.random.pick(&calls)];
+    }
+    for plain in calls {
+        for k in [0, run.random.of_results()] {
+            run.ask(subject, &functype(plain, [params, results], k));
+        }
+    }
+}
+
+/// In either memory, sync and async, lifted and lowered, without a callback and with one; each of these numbers is 0 or
+/// the given one.
+pub fn every_plain_call(yes: u32) -> [PlainCall; 16] {
+    std::array::from_fn(|settings| {
+        let setting = |bit: u32| if settings >> bit & 1 == 0 { 0 } else { yes };
+        PlainCall {
+            side: Side {
+                memory: setting(0),
+                asynchronous: setting(1),
+            },
+            lower: setting(2),
+            callback: setting(3),
+        }
+    })
+}
+
+pub fn functype(plain: PlainCall, [params, results]: [&[u32]; 2], k: u32) -> Question {
+    Question::Functype {
+        plain,
+        params: params.to_vec(),
+        results: results.to_vec(),
+        k,
+    }
+}
+
+/// Asks, and holds the model's answer to the papers'; the offsets that the model writes for a placement.
+pub fn answer_is(
+    run: &mut Run,
+    subject: &mut Subject,
+    question: &Question,
+    answer: u64,
+) -> Vec<u32> {
+    run.ask(subject, question);
+    let [mut offsets, mut gaps] = question.rooms().map(|room| vec![0; room.unwrap_or(0)]);
+    let written = [&mut offsets[..], &mut gaps];
+    let said = encode::answer(model::ask(question, &subject.table, subject.n, written));
+    run.tally.consistent(said == answer, || {
+        format!("by the papers {answer:#x}, the model says {said:#x}: {question:?}")
+    });
+    offsets
 }
 
 /// One placement, in buffers of so many words for the offsets and for the gaps.

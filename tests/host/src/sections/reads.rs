@@ -1,10 +1,11 @@
 //! Order 6: what builds and placements report as read back. The model is held to numbers that come from the
 //! order; each call is made over bytes too.
+use super::refusal;
 use crate::calls::{Question, WRITTEN};
 use crate::compare::{Run, Subject};
 use crate::encode::{self, PLACEMENT_READS};
 use crate::generate::chain;
-use crate::model::{self, Answer, MOST_ROWS, MOST_WORDS, ROW, Refused, Row, table_of};
+use crate::model::{self, Answer, MOST_ROWS, MOST_WORDS, ROW, Row, table_of};
 
 const U8: u32 = 2;
 const U32: u32 = 6;
@@ -255,10 +256,6 @@ fn bad_rows(run: &mut Run) {
     }
     let mut subject = run.forged(table, 3);
     placed(run, &mut subject, &[64, 64], refusal(8, 0));
-}
-
-fn refusal<T>(number: u64, at: u64) -> Answer<T> {
-    Err(Refused { number, at })
 }
 
 /// Builds with room for every row: rows and rows read back, or the refusal, are the order's.

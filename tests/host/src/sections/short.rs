@@ -1,6 +1,7 @@
 //! Short descriptions, all of them.
 use super::questions;
 use crate::compare::Run;
+use crate::generate;
 use crate::model::ROW;
 
 /// U32, U64, Float32, Float64 and String: every core type, and one that depends on the memory.
@@ -8,20 +9,7 @@ const FLAT_ALPHABET: [u32; 5] = [6, 8, 9, 10, 12];
 
 /// All pairs of short flat lists, joined by a variant, an option and a result.
 pub fn joins(run: &mut Run) {
-    let longest = if run.quick { 2 } else { 3 };
-    let mut lists: Vec<Vec<u32>> = vec![vec![]];
-    let mut begin = 0;
-    for _ in 0..longest {
-        let end = lists.len();
-        for list in begin..end {
-            for word in FLAT_ALPHABET {
-                let mut longer = lists[list].clone();
-                longer.push(word);
-                lists.push(longer);
-            }
-        }
-        begin = end;
-    }
+    let lists = generate::every_list(&FLAT_ALPHABET, if run.quick { 2 } else { 3 });
     for first in &lists {
         for second in &lists {
             let mut words = vec![1, first.len() as u32];

@@ -1,4 +1,8 @@
 -- Arm by arm.
+use mathlib.Core.Path.{ap, _∙_}
+use Rattle.host.specs.Numbers.{answerNumber}
+use Rattle.host.proofs.Short.{question-short}
+use denote.Ref.{now}
 use borrow.Author.Needs.{needs}
 use Rattle.host.proofs.question.ask.Statement.{statement}
 use Rattle.host.proofs.question.ask.Tie as tie
@@ -24,14 +28,13 @@ lampughjata-lifting-requires c κs = search needs
 enum-known-question-4 : tie.Need-enum-known-question-4
 enum-known-question-4 c = search needs
 
-lampughjata-async-start-requires : tie.Need-lampughjata-async-start-requires
-lampughjata-async-start-requires c κs = search needs
+signature-of-requires : tie.Need-signature-of-requires
+signature-of-requires c κs = search needs
 
-enum-known-question-5 : tie.Need-enum-known-question-5
-enum-known-question-5 c = search needs
-
-lampughjata-async-return-requires : tie.Need-lampughjata-async-return-requires
-lampughjata-async-return-requires c κs = search needs
+signature-number-requires : tie.Need-signature-number-requires
+signature-number-requires c κs =
+    let a = c .before .before .before .before .before .before .before .args in
+    rw (c .signature-of .ensures) (question-short (c .before .before .question4 .given .0 .0) (now (a .table)) (a .rows) (now (a .first)) (now (a .second)))
 
 enum-told : tie.Need-enum-told
 enum-told c = search needs
@@ -49,13 +52,10 @@ returns-3 : tie.Need-returns-3
 returns-3 c = rw (c .before .before .question3 .given .1) (c .lampughjata-lifting .ensures)
 
 returns-4 : tie.Need-returns-4
-returns-4 c = rw (c .before .before .question4 .given .1) (c .lampughjata-async-start .ensures)
+returns-4 c = rw (c .before .before .before .question4 .given .1) (c .signature-number .ensures ∙ ap (answerNumber _) (c .before .signature-of .ensures))
 
 returns-5 : tie.Need-returns-5
-returns-5 c = rw (c .before .before .question5 .given .1) (c .lampughjata-async-return .ensures)
-
-returns-6 : tie.Need-returns-6
-returns-6 c = rw (c .before .enum-told .given .1) (c .lampughjata-contains-borrow .ensures)
+returns-5 c = rw (c .before .enum-told .given .1) (c .lampughjata-contains-borrow .ensures)
 
 pub ask-spec : {M : Type 1} → statement M
 ask-spec =
@@ -68,14 +68,12 @@ ask-spec =
     enum-known-question-3
     lampughjata-lifting-requires
     enum-known-question-4
-    lampughjata-async-start-requires
-    enum-known-question-5
-    lampughjata-async-return-requires
+    signature-of-requires
+    signature-number-requires
     enum-told
     lampughjata-contains-borrow-requires
     returns
     returns-2
     returns-3
     returns-4
-    returns-5
-    returns-6)
+    returns-5)

@@ -5,7 +5,8 @@ use Rattle.canon.specs.Pack.{pack}
 use Rattle.canon.specs.Signature.{atMost, liftingMax, orPointer, returned, returnOf}
 use Rattle.types.specs.Means.{memoryOf}
 use Rattle.flat_types.specs.Lists.{flat}
-use Rattle.signature.proofs.Maxima.{pointer-behind, params-short, maximum-small}
+use Rattle.canon.proofs.Signatures.{maximum-small, or-pointer-short}
+use Rattle.signature.proofs.Maxima.{pointer-behind}
 use borrow.Author.Needs.{needs}
 use Rattle.signature.proofs.signatures.return_of.Statement.{statement}
 use Rattle.signature.proofs.signatures.return_of.Tie as tie
@@ -34,7 +35,7 @@ returns c =
     let max = liftingMax (a .lift .«async_») in
     let o = flat (a .lifted) in
     let p = rw (c .before .before .before .before .lifting-max .ensures) at (c .before .before .before .or-pointer .ensures) in
-    let short = params-short m max o (maximum-small (a .lift .«async_») 16 1 (omega arith) (omega arith)) in
+    let short = or-pointer-short m max 16 o (maximum-small (a .lift .«async_») 16 1 (omega arith) (omega arith)) (omega arith) in
     rw (sym (c .before .before .behind-pointer .ensures) ∙ c .before .if1 .taken, pointer-behind m (orPointer m (atMost max o)) _ _ short p (c .with-pointer .ensures))
 
 returns-2 : tie.Need-returns-2
