@@ -115,16 +115,16 @@ static int print_async_start(const uint32_t *table, size_t words, uint32_t rows)
 /* A function from the record to the record at one end of a sync call without an adapter, in a 64-bit memory. As a
  * result the record has too many core types and lies in memory: the called returns a pointer to it, the caller
  * passes one. */
-static int print_functype(uint32_t end, const uint32_t *table, size_t words, uint32_t rows)
+static int print_functype(uint32_t context, const uint32_t *table, size_t words, uint32_t rows)
 {
     static const uint32_t types[] = {DEFINITION_0};
     uint64_t list[RESULTS + 1];
     for (uint32_t k = PARAMETERS; k <= RESULTS; k++) {
-        list[k] = lampughjata_functype(MEMORY64, SYNC, end, NO_CALLBACK, table, words, rows, types, 1,
+        list[k] = lampughjata_functype(MEMORY64, SYNC, context, NO_CALLBACK, table, words, rows, types, 1,
                                        types, 1, k);
         if (is_refused("functype", list[k])) return 1;
     }
-    print_signature(end == LIFT ? "functype, lifted" : "functype, lowered", list);
+    print_signature(context == LIFT ? "functype, lifted" : "functype, lowered", list);
     return 0;
 }
 

@@ -191,6 +191,7 @@ uint64_t lampughjata_async_return(uint32_t lift_memory, uint32_t lift_async, uin
  *
  * An async lift returns an I32 if it has a callback (1), else nothing. An async lower returns an I32, in a 64-bit memory too, and
  * takes the pointer as soon as there is a core type to write: an empty record has none, though an async return has a pointer for it.
+ * A type without a flat count goes through memory.
  *     lampughjata_functype(1, 1, 0, 1, table, 16, 1, record, 1, record, 1, 1) == 1 * COUNT
  *     lampughjata_functype(1, 1, 0, 0, table, 16, 1, record, 1, record, 1, 1) == 0
  *     lampughjata_functype(1, 1, 1, 0, table, 16, 1, record, 1, record, 1, 0) == 0x114 + 5 * COUNT

@@ -51,9 +51,9 @@ fn main() -> Result<(), Refused> {
     println!("a packet is {} definitions deep", info.depth);
 
     // The imager calls the store: `store(packet) -> bool`, async at both ends.
-    let (parameters, results) = ([packet], [Reference::BOOL]);
-    print_adapter(&table, &parameters, &results)?;
-    print_plain_calls(&table, &parameters, &results)?;
+    let (params, results) = ([packet], [Reference::BOOL]);
+    print_adapter(&table, &params, &results)?;
+    print_plain_calls(&table, &params, &results)?;
 
     // A description from elsewhere may ask for what no memory can hold: the answer says so.
     let mut description = Description::new();
@@ -70,7 +70,7 @@ const STORE: Memory = Memory::Memory64;
 /// An adapter between the two components needs two core functions.
 fn print_adapter(
     table: &Table,
-    parameters: &[Reference],
+    params: &[Reference],
     results: &[Reference],
 ) -> Result<(), Refused> {
     let side = |memory, types| Side {
@@ -78,7 +78,7 @@ fn print_adapter(
         calling: Calling::Async,
         types,
     };
-    let start = table.async_start(side(IMAGER, parameters), side(STORE, parameters))?;
+    let start = table.async_start(side(IMAGER, params), side(STORE, params))?;
     println!("the call starts through {start}");
     let end = table.async_return(side(STORE, results), side(IMAGER, results))?;
     println!("and returns through     {end}");
@@ -92,16 +92,16 @@ fn print_plain_calls(
     params: &[Reference],
     results: &[Reference],
 ) -> Result<(), Refused> {
-    let function = |memory| Function {
+    let function = |memory, callback| Function {
         memory,
         calling: Calling::Async,
-        callback: true,
+        callback,
         params,
         results,
     };
-    let exported = table.functype(Context::Lift, function(STORE))?;
+    let exported = table.functype(Context::Lift, function(STORE, true))?;
     println!("the store exports       {exported}");
-    let imported = table.functype(Context::Lower, function(IMAGER))?;
+    let imported = table.functype(Context::Lower, function(IMAGER, false))?;
     println!("the imager imports      {imported}");
     Ok(())
 }

@@ -16,8 +16,8 @@ impl fmt::Display for CoreType {
     }
 }
 
-/// A list of at most 17 core types: 16, and a pointer that an async return adds, or a function that is
-/// lowered.
+/// A list of at most 17 core types: 16, and a pointer behind them, of an async return or of a function that
+/// is lowered.
 ///
 /// It is kept as the library packs it, two bits a type with the first lowest, so that it is a number to
 /// copy and needs no allocation.

@@ -586,6 +586,7 @@ impl<W: AsRef<[u32]>> Table<W> {
     /// - An async lower returns an I32, in a 64-bit memory too. It takes a pointer as its last parameter if
     ///   its results have any core type. An empty record has none, and so gets no pointer here, unlike in
     ///   [`Table::async_return`].
+    /// - Types without a flat count go through memory.
     ///
     /// The parameters are tested before the results, whose positions count on from theirs.
     ///

@@ -28,7 +28,7 @@ fn function<'a>(
 }
 
 /// What the signature is where no type is a definition.
-fn plain(context: Context, function: Function) -> String {
+fn without_definitions(context: Context, function: Function) -> String {
     told(Table::build(&[]).unwrap().functype(context, function))
 }
 
@@ -76,7 +76,7 @@ fn every_way_with_a_result_that_lies_in_memory() {
                     params: &[Reference::FLOAT64, Reference::STRING],
                     results: &[Reference::STRING],
                 };
-                let signature = plain(context, function);
+                let signature = without_definitions(context, function);
                 said.push(format!(
                     "{memory:?}, {context:?}, {calling:?}{also}: {signature}"
                 ));
@@ -95,7 +95,7 @@ fn a_sync_function_returns_one_core_type() {
         (Calling::Async, Context::Lower, "(I64) -> (I32)"),
     ] {
         let function = function(calling, &[], &[Reference::FLOAT32]);
-        assert_eq!(plain(context, function), expected);
+        assert_eq!(without_definitions(context, function), expected);
     }
 }
 

@@ -1,5 +1,6 @@
 -- The worked examples of document 01 and of order 4, with depths by order 5's rule, as one list under one theorem: words in, the papers' numbers
--- out, through the meaning of descriptions and questions that the promises cite. How deep lists may go, in a longer table, is a theorem beside it.
+-- out, through the meaning of descriptions and questions that the promises cite. Theorems beside it: how deep lists may go, in a longer table; rows
+-- read back; gaps; plain calls.
 use mathlib.Core.Path.{_≡_, refl}
 use mathlib.Core.Bool.{Bool, true, false}
 use mathlib.Core.List.{List, [], _∷_, _++_, map}
@@ -16,8 +17,8 @@ use Rattle.canon.specs.Description.{reference, mark, caseOf, membersOf, 
 use Rattle.canon.specs.Question.{plainInfo, readRow, read, infos, noTable, ask, askTwo, typeAnswer, firstOver, orSize, refusedAt, judged, placed, placing, placementAnswer}
 use Rattle.canon.specs.Cost.{rowsAmong, referencesFrom, buildReads, placementReads}
 use Rattle.canon.specs.Gaps.{gaps, gapAfter, padded, padding}
-use Rattle.canon.specs.Functype.{Context, lift, lower, functypeOf, functypeAnswer, flattenAsync, flattenFunctype}
-use Rattle.canon.specs.Types.{Core, I32, I64, scalar, u32, fixedOf}
+use Rattle.canon.specs.Functype.{Context, lift, lower, functypeOf, functypeAnswer, flattenSync, flattenAsync, flattenFunctype}
+use Rattle.canon.specs.Types.{Ty, Core, I32, I64, scalar, u32, fixedOf}
 use Rattle.canon.specs.Signature.{Flattened, listed, inMemory, flatAll, atMost, flattenAnswer, Side, Signature, orPointer, startOf, asyncStartAnswer, behindPointer, returned, returnOf, asyncReturnAnswer}
 
 -- what is asked of a description's table, most often of its last definition
@@ -223,7 +224,7 @@ unfolding
     plainInfo readRow read infos noTable ask firstOver orSize refusedAt judged placed gaps gapAfter padded padding
 gaps-hold = refl
 
--- Plain calls, over a table of an empty record (64), of 17 U32 (65) and of a fixed list of none of these (66), which has no flat count
+-- Plain calls, over a table of an empty record (64), a fixed list of 17 U32 (65) and a fixed list of no such lists (66): the last two have no flat count
 
 abbrev mixed : List ℕ
 mixed = tableAfter (1 ∷ 0 ∷ 10 ∷ 6 ∷ 17 ∷ 10 ∷ 65 ∷ 0 ∷ []) (replicate 48 0)
@@ -247,8 +248,7 @@ pub functypes-hold :
     -- an empty record as result, lowered async: no pointer, but one in async return
     ∷ plainCall lower (asyncSide mem32) false [] (64 ∷ [])
     ∷ asyncReturnAnswer mixed 3 (side mem64) [] (asyncSide mem32) (64 ∷ [])
-    -- none is above 0 as well; a result that is not looked at is tested, and its position counts on
-    ∷ plainCall lower (asyncSide mem32) false [] (66 ∷ [])
+    -- a result that is not looked at is tested, and its position counts on
     ∷ plainCall lift (asyncSide mem32) false (6 ∷ []) (6 ∷ 67 ∷ [])
     ∷ []
     ≡ signed (I32 ∷ I64 ∷ I64 ∷ []) (I64 ∷ [])
@@ -260,7 +260,6 @@ pub functypes-hold :
     ∷ signed (I32 ∷ I32 ∷ I32 ∷ I32 ∷ I32 ∷ []) []
     ∷ signed [] (I32 ∷ [])
     ∷ signed (I64 ∷ []) []
-    ∷ signed (I32 ∷ []) (I32 ∷ [])
     ∷ refused 4 2
     ∷ []
 unfolding
@@ -269,8 +268,39 @@ unfolding
     buildFrom build tableAfter plainInfo readRow read infos noTable askTwo flatAll atMost orPointer behindPointer returned returnOf asyncReturnAnswer functypeOf functypeAnswer
 functypes-hold = refl
 
--- the standard gives that fixed list no pointer: its list is empty
+-- The last of these parts from its flat list, which is empty: what 02 passes through memory, the standard's lines pass as nothing. As a result of an
+-- async lower, a sync lift and a sync lower, and as a parameter
+
+abbrev parting : List Ty
+parting = fixedOf (fixedOf (scalar u32) 17) 0 ∷ []
+
 pub parting-shown :
-    flattenFunctype mem32 lower true false [] (fixedOf (fixedOf (scalar u32) 17) 0 ∷ []) ≡ record { params = []; results = I32 ∷ [] }
-unfolding flattenAsync concat flatten copies
+    plainCall lower (asyncSide mem32) false [] (66 ∷ [])
+    ∷ plainCall lift (side mem32) false [] (66 ∷ [])
+    ∷ plainCall lower (side mem32) false [] (66 ∷ [])
+    ∷ plainCall lift (side mem32) false (66 ∷ []) []
+    ∷ []
+    ≡ signed (I32 ∷ []) (I32 ∷ [])
+    ∷ signed [] (I32 ∷ [])
+    ∷ signed (I32 ∷ []) []
+    ∷ signed (I32 ∷ []) []
+    ∷ []
+unfolding
+    atPosition then unless roundUp greatestAlign starts ends lastEnd recordSize layout numbers concat copies flatten timesFlat sumFlat flatCount joinReach deeper reachWord wordReach goodReach reach pack unpack
+    rowOf flatOf isAlignment goodLayout goodCount unusedZero goodAbi isDiscriminant isGood capacity place cell cellsFrom putFrom putRows reference membersOf kindOf typeOf isTooLarge isTooDeep checked bodied
+    buildFrom build tableAfter plainInfo readRow read infos noTable askTwo flatAll atMost orPointer functypeOf functypeAnswer
 parting-shown = refl
+
+pub parting-standard :
+    flattenFunctype mem32 lower true false [] parting
+    ∷ flattenFunctype mem32 lift false false [] parting
+    ∷ flattenFunctype mem32 lower false false [] parting
+    ∷ flattenFunctype mem32 lift false false parting []
+    ∷ []
+    ≡ record { params = []; results = I32 ∷ [] }
+    ∷ record { params = []; results = [] }
+    ∷ record { params = []; results = [] }
+    ∷ record { params = []; results = [] }
+    ∷ []
+unfolding flattenSync flattenAsync concat flatten copies
+parting-standard = refl

@@ -1,4 +1,4 @@
--- Core signatures: what a maximum leaves of a list, and plain calls, which are the standard's where every type has the flat count of its list.
+-- Core signatures: what a maximum leaves of a list, and plain calls, which are the standard's where no type has a parting.
 use mathlib.Core.Path.{_≡_, refl, ap, _∙_}
 use mathlib.Core.Logic.{_⊎_, inl, inr, ⊎-elim}
 use mathlib.Core.Bool.{Bool, true, false, cond}
@@ -26,7 +26,7 @@ pub maximum-small : (b : Bool) (x y : ℕ) → x ≤ 16 → y ≤ 16 → cond b 
 maximum-small true x y h g = h
 maximum-small false x y h g = g
 
--- what a maximum leaves of a list, with something in place of what lies in memory
+-- what a maximum leaves of a list is short where what stands for "memory" is
 pub kept-short :
     (f : Flattened → List Core) (max most : ℕ) (o : Option (List Core)) → ((l : List Core) → f (listed l) ≡ l) → length (f inMemory) ≤ most → max ≤ most →
     length (f (atMost max o)) ≤ most
@@ -100,8 +100,8 @@ counted-or-long :
     (m : Memory) (us : List Ty) → (AnyParting us → ⊥) →
     (flatTypes m us ≡ some (flattenTypes m us)) ⊎ ((flatTypes m us ≡ none) × (16 < length (flattenTypes m us)))
 unfolding concat
-counted-or-long m [] whole = inl refl
-counted-or-long m (u ∷ us) whole = go (flatCount u) refl (counted-or-long m us (λ p. whole (inr p)))
+counted-or-long m [] unparted = inl refl
+counted-or-long m (u ∷ us) unparted = go (flatCount u) refl (counted-or-long m us (λ p. unparted (inr p)))
   where
     all : Option ℕ → Option (List Core)
     all o = mapOption2 _++_ (mapOption (λ (n : ℕ). flatten m u) o) (flatTypes m us)
@@ -113,14 +113,14 @@ counted-or-long m (u ∷ us) whole = go (flatCount u) refl (counted-or-long m us
         (o : Option ℕ) → flatCount u ≡ o → (flatTypes m us ≡ some (flattenTypes m us)) ⊎ ((flatTypes m us ≡ none) × (16 < length (flattenTypes m us))) →
         (all o ≡ some joined) ⊎ ((all o ≡ none) × (16 < length joined))
     go none e rest =
-        ⊎-elim (λ (h : 16 < length (flatten m u)). inr (refl, omega (arith, length-append (flatten m u) (flattenTypes m us)))) (λ p. absurd (whole (inl p)))
+        ⊎-elim (λ (h : 16 < length (flatten m u)). inr (refl, omega (arith, length-append (flatten m u) (flattenTypes m us)))) (λ p. absurd (unparted (inl p)))
         (uncounted m u .0 e)
     go (some n) e (inl h) = inl (rw h)
     go (some n) e (inr h) = inr (rw (h .0), omega (arith, h .1, length-append (flatten m u) (flattenTypes m us)))
 
 types-alike : (m : Memory) (us : List Ty) → (AnyParting us → ⊥) → Alike (flatTypes m us) (some (flattenTypes m us))
 unfolding atMost
-types-alike m us whole max small = go (counted-or-long m us whole)
+types-alike m us unparted max small = go (counted-or-long m us unparted)
   where
     go :
         (flatTypes m us ≡ some (flattenTypes m us)) ⊎ ((flatTypes m us ≡ none) × (16 < length (flattenTypes m us))) →

@@ -31,7 +31,7 @@ abbrev pub pointerTo : Memory → Flattened → List Core
 pointerTo m (listed l) = []
 pointerTo m inMemory = ptrType m ∷ []
 
--- what an async call returns; it is no pointer, so it is an I32 in either memory
+-- what an async lower returns, and an async lift with a callback; it is no pointer, so it is I32 in either memory
 abbrev pub status : List Core
 status = I32 ∷ []
 
@@ -47,6 +47,7 @@ lowerParams s params results = passed lower s params ++ pointerTo (s .memory) (a
 abbrev pub lowerResults : Bool → Option (List Core) → List Core
 lowerResults async results = cond async status (listOrNone (atMost 1 results))
 
+-- "sync and async, lift and lower, with and without a callback, either memory"
 unfoldable pub functypeOf : Context → Side → Bool → Option (List Core) → Option (List Core) → Signature
 functypeOf lift s callback params results = record { params = passed lift s params; results = liftResults s callback results }
 functypeOf lower s callback params results = record { params = lowerParams s params results; results = lowerResults (s .async) results }
@@ -56,17 +57,17 @@ unfoldable pub functypeAnswer : List ℕ → ℕ → Context → Side → Bool �
 functypeAnswer t n c s callback vs ws =
     askTwo t n vs ws (λ is′ js. ok (functypeOf c s callback (flatAll (s .memory) is′) (flatAll (s .memory) js)))
 
--- "the standard's function flattening" itself, over types: CanonicalABI.md, flatten_functype, line by line
+-- "the standard's function flattening" itself, over types: flatten_functype of CanonicalABI.md, as it is publicly known (docs/DIFFERENCES.md)
 
 -- flatten_types
 abbrev pub flattenTypes : Memory → List Ty → List Core
 flattenTypes m ts = concat (map (flatten m) ts)
 
--- "if len(flat_params) > MAX_FLAT_PARAMS: flat_params = [ptr_type]", and so for results
+-- a list longer than the maximum is one pointer
 abbrev pub pointerAbove : Memory → ℕ → List Core → List Core
 pointerAbove m most l = cond (ltb most (length l)) (ptrType m ∷ []) l
 
--- "if not opts.async_", then by context
+-- sync, by context
 unfoldable pub flattenSync : Memory → Context → List Core → List Core → Signature
 flattenSync m lift params results = record { params = pointerAbove m 16 params; results = pointerAbove m 1 results }
 flattenSync m lower params results =
@@ -74,12 +75,13 @@ flattenSync m lower params results =
     (record { params = pointerAbove m 16 params ++ ptrType m ∷ []; results = [] })
     (record { params = pointerAbove m 16 params; results = results })
 
--- "else", by context
+-- async, by context
 unfoldable pub flattenAsync : Memory → Context → Bool → List Core → List Core → Signature
 flattenAsync m lift callback params results = record { params = pointerAbove m 16 params; results = cond callback (I32 ∷ []) [] }
 flattenAsync m lower callback params results =
     record { params = pointerAbove m 4 params ++ cond (ltb 0 (length results)) (ptrType m ∷ []) []; results = I32 ∷ [] }
 
+-- flatten_functype
 abbrev pub flattenFunctype : Memory → Context → Bool → Bool → List Ty → List Ty → Signature
 flattenFunctype m c async callback ps rs =
     cond async (flattenAsync m c callback (flattenTypes m ps) (flattenTypes m rs)) (flattenSync m c (flattenTypes m ps) (flattenTypes m rs))

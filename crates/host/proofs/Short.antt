@@ -156,7 +156,7 @@ functype-answers-short t n c s callback vs ws =
     let short = functype-short c s callback (flatAll (s .memory) is′) (flatAll (s .memory) js) in
     (short-list _ (short .0), short-list _ (omega (arith, short .1)))))
 
--- whichever a question as a value names
+-- a signature that is asked for as a value
 pub question-short :
     (x : SignatureQuestion) (t : List ℕ) (n : ℕ) (vs ws : List ℕ) → IfAnswered ShortSignature (packedAnswer (questionAnswer x t n vs ws))
 question-short (question.AsyncStart lower lift) t n vs ws = start-short t n (sideMeans lower) vs (sideMeans lift) ws

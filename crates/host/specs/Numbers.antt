@@ -31,7 +31,7 @@ isSet x = not (eqb x 0)
 abbrev pub sideAt : ℕ → ℕ → Side
 sideAt memory async = record { memory = memoryAt memory; async = isSet async }
 
--- "A context is 0 for lift, any other number for lower"
+-- "Lower is 0 for a lift, any other number for a lower"
 abbrev pub contextAt : ℕ → Context
 contextAt x = cond (eqb x 0) lift lower
 

@@ -22,7 +22,7 @@ pub(crate) fn memory_at(memory: u32) -> Memory
     }
 }
 
-// Async is 0 for sync, any other number for async; a callback is 0 for none.
+// Async is 0 for sync, any other number for async; a callback is 0 for none, any other number for one.
 pub(crate) fn is_set(x: u32) -> bool
     ensures { λ r. ⌜ r ≡ isSet x ⌝ }
 {
@@ -38,7 +38,7 @@ pub(crate) fn side_at(memory: u32, async_: u32) -> Side
     }
 }
 
-// A context is 0 for lift, any other number for lower.
+// Lower is 0 for a lift, any other number for a lower.
 pub(crate) fn context_at(lower: u32) -> Context
     ensures { λ r. ⌜ contextMeans r ≡ contextAt lower ⌝ }
 {

@@ -1,18 +1,18 @@
--- The rule of a maximum over a list's words, and async return's rule of the pointer.
+-- The rule of a maximum over a list's words, async return's rule of the pointer, and signatures over words.
 use mathlib.Core.Path.{_≡_, refl, sym, _∙_}
-use mathlib.Core.Bool.{Bool, true, false, cond}
+use mathlib.Core.Bool.{Bool, false}
 use mathlib.Core.List.{List, [], _∷_, _++_}
 use mathlib.Core.Option.{Option, none, some}
 use Prim.Native.Nat.{ℕ, _≤_, _<_}
 use native.Mathlib.Decide.{decLe}
 use native.Mathlib.Omega.{arith}
-use lib.Dec.{leb, ltb}
+use lib.Dec.{ltb}
 use lib.ListN.{length, length-append}
-use borrow.Author.Tests.{le-leb, lt-leb, leb-true, lt-ltb, le-ltb}
+use borrow.Author.Tests.{le-leb, lt-leb, lt-ltb, le-ltb}
 use Rattle.canon.specs.Layout.{Memory, mem32, mem64}
 use Rattle.canon.specs.Flat.{ptrType}
 use Rattle.canon.specs.Pack.{Packed, code, pack}
-use Rattle.canon.specs.Signature.{listed, inMemory, atMost, Side, liftingMax, paramsMax, orPointer, startOf, behindPointer, listOrNone, returnOf}
+use Rattle.canon.specs.Signature.{listed, inMemory, atMost, Side, liftingMax, paramsMax, startOf, behindPointer, listOrNone, returnOf}
 use Rattle.canon.specs.Functype.{Context, functypeOf}
 use Rattle.canon.specs.Types.{Core}
 use Rattle.canon.proofs.Signatures.{maximum-small, functype-alike}

@@ -136,9 +136,9 @@ module _ (κs : Lfts 3) (c : Context) (s : declared.Side) (callback : Bool) (t :
     functype-of =
         two-typed (memoryOf (s .memory)) (memoryOf (s .memory)) (functypeOf (contextMeans c) (sideMeans s) callback) _ table first second promise
 
-    -- where no type's flat count parts from its flat list, the answer is the standard's
+    -- where no type has a parting, the answer is the standard's
     pub functype-standard-of :
         (AnyParting us → ⊥) → (AnyParting us′ → ⊥) →
         means.signatureAnswerMeans r ≡ ok (packedSignature (flattenFunctype (memoryOf (s .memory)) (contextMeans c) (s .«async_») callback us us′))
-    functype-standard-of whole whole′ =
-        functype-of ∙ rw (functype-standard (contextMeans c) (sideMeans s) callback us us′ whole whole′)
+    functype-standard-of unparted unparted′ =
+        functype-of ∙ rw (functype-standard (contextMeans c) (sideMeans s) callback us us′ unparted unparted′)

@@ -1,4 +1,4 @@
--- What this crate's answers stand for: 01's number of a refusal with the position, or 01's values.
+-- What this crate's values stand for; of an answer, 01's number of a refusal with the position, or 01's values.
 use mathlib.Core.Bool.{Bool}
 use mathlib.Core.List.{List}
 use mathlib.Core.Option.{Option, none, some}

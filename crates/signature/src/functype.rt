@@ -23,7 +23,7 @@ pub enum Context {
     Lower,
 }
 
-// What an async call returns is an I32 in either memory: it is no pointer.
+// What an async lower returns, and an async lift with a callback, is no pointer: it is I32 in either memory.
 const STATUS: FlatList = FlatList { count: 1, types: 0 };
 
 // An async lift hands its results to a built-in function, so their types play no part.
@@ -39,7 +39,7 @@ fn lift_results(side: Side, callback: bool, results: FlatList) -> FlatList
     }
 }
 
-// Results that lie in memory have a pointer behind the parameters; those of an async lower do so as soon as there are any.
+// Results that lie in memory have a pointer behind the parameters; those of an async lower lie there as soon as they have a flat type.
 fn lower_params(side: Side, params: FlatList, results: FlatList) -> FlatList
     requires { ⌜ Whole params × Whole results ⌝ }
     ensures { λ r. ⌜ words r ≡ packedList (lowerParams (sideMeans side) (flat params) (flat results)) ⌝ }

@@ -1,5 +1,5 @@
 // Answers a question on two lists that is given as a value, for a caller that decodes the lists in one place. It calls none of the three
-// functions, so that each keeps one caller and is compiled into it.
+// signature functions, so that each keeps one caller and is compiled into it.
 ghost use mathlib.Core.Path.{_≡_};
 ghost use Rattle.flat_types.specs.Lists.{flat};
 ghost use Rattle.types.specs.Means.{memoryOf};

@@ -152,6 +152,14 @@ impl Question {
             .chain(lists.into_iter().flatten().copied())
     }
 
+    /// Whether it asks what an async plain call returns, which tells nothing of its types.
+    pub fn is_a_status(&self) -> bool {
+        match self {
+            Question::Functype { plain, k, .. } => plain.side.asynchronous != 0 && *k > 0,
+            _ => false,
+        }
+    }
+
     /// The length of each buffer that the question lends, in words.
     pub fn rooms(&self) -> [Option<usize>; WRITTEN] {
         match self {

@@ -172,7 +172,8 @@ impl Run {
             return;
         };
         let mut held = question.references().filter_map(model::definition_named);
-        let apart = held.any(|index| subject.suspects.get(index) == Some(&true));
+        let is_suspect = held.any(|index| subject.suspects.get(index) == Some(&true));
+        let apart = is_suspect || question.is_a_status();
         let mut outcome = original::ask(original, question);
         Fault::original_gaps(self.fault, &mut outcome);
         Fault::original_params(self.fault, question, &mut outcome);

@@ -18,7 +18,8 @@ pub struct Tally {
     pub original: u64,
     /// The same for types that hold an enum or variant of 256 or 65,536 cases, and for discriminants,
     /// enums and flags asked for by themselves: the oracle has stand-ins there, so they are not
-    /// counted as equal to the Rust.
+    /// counted as equal to the Rust. The same for what an async plain call returns, where nothing is the
+    /// original's.
     pub apart: u64,
     /// Rows that builds wrote, whose numbers for 64 were compared with those for 32.
     pub port_rows: u64,
@@ -177,7 +178,7 @@ impl Tally {
     pub fn summary(&self) -> String {
         format!(
             "{} answers of the port compared with the model ({} by byte calls, {} with rows read back), \
-             {} of the original with the model, {} apart (stand-ins), {} rows of the port and {} of the original compared in \
+             {} of the original with the model, {} apart (stand-ins, statuses), {} rows of the port and {} of the original compared in \
              the two memories, {} placements summed, {} of them with gaps, {} refusals 6 where the original panicked and {} where it saturated, {} \
              refusals 9 where it went on and {} where it panicked, in {} s: {} differences",
             self.answers,

@@ -1,4 +1,4 @@
--- A status, which the call computes, or what `or_nothing` leaves.
+-- A status, whose words compute, or what `or_nothing` leaves.
 use Rattle.canon.specs.Pack.{pack}
 use borrow.Author.Needs.{needs}
 use Rattle.signature.proofs.functype.lower_results.Statement.{statement}
