@@ -16,7 +16,7 @@ use head::{ENUM, OPTION};
 use table::{DefinitionIndex, Info, Inner, NO_LAYOUTS, Reach};
 use types::{DiscriminantAnswer, DiscriminantSize, Extents, Layouts};
 
-#[derive(Drop)]
+#[derive(Clone, Copy)]
 struct Payloads {
     layouts: Layouts,
     flat: FlatTypes,
@@ -24,7 +24,7 @@ struct Payloads {
 }
 
 // Holds the payloads, and how many rows were read back for the last.
-#[derive(Drop)]
+#[derive(Clone, Copy)]
 enum Joined {
     Payloads(Payloads, u32),
     BadRef,

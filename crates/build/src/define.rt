@@ -17,7 +17,7 @@ use table::{DefinitionIndex, Row};
 use types::Refusal;
 
 // Holds the row, the place where the next definition begins, and how many rows were read back for it.
-#[derive(Drop)]
+#[derive(Clone, Copy)]
 pub(crate) enum DefinedRow {
     Row(Row, usize, u32),
     Refused(Refusal),

@@ -1,4 +1,6 @@
 // Makes the rows of a table from a description's words, one definition after another.
+#![tactic(auto)]
+
 mod cases;
 mod define;
 mod members;
@@ -22,7 +24,7 @@ pub const MAX_WORDS: usize = 16384;
 pub const MAX_BYTES: usize = 4 * MAX_WORDS;
 
 // Accepted, it holds how many rows were written and how many were read back.
-#[derive(Drop)]
+#[derive(Clone, Copy)]
 pub enum Built {
     Rows(u32, u32),
     Refused(Refusal, DefinitionIndex),

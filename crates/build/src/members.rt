@@ -14,7 +14,7 @@ use head::MAP;
 use table::{DefinitionIndex, Info, Inner, Reach};
 use types::Extents;
 
-#[derive(Drop)]
+#[derive(Clone, Copy)]
 struct Members {
     extents: Extents,
     flat: FlatTypes,

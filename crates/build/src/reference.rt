@@ -11,13 +11,13 @@ use table::{DefinitionIndex, FIRST_DEFINITION, Found, Info, plain_info_by_shifts
 const NO_PAYLOAD: u32 = 4294967295;
 
 // Holds the info, and how many rows were read back for it.
-#[derive(Drop)]
+#[derive(Clone, Copy)]
 pub(crate) enum Looked {
     Info(Info, u32),
     BadRef,
 }
 
-#[derive(Drop)]
+#[derive(Clone, Copy)]
 pub(crate) enum Payload {
     Bare,
     Info(Info, u32),

@@ -11,14 +11,14 @@ use flat_types::FlatTypes;
 use table::{Deeper, Info, Inner, NO_LAYOUTS, Reach, Row};
 use types::{CanonicalAbiInfo, Extents, Fitted, Layouts, Refusal};
 
-#[derive(Drop)]
+#[derive(Clone, Copy)]
 pub(crate) enum Rowed {
     Row(Row),
     Refused(Refusal),
 }
 
 // Holds what a definition's body makes, and how many rows were read back for it: of a refusal the number tells nothing.
-#[derive(Drop)]
+#[derive(Clone, Copy)]
 pub(crate) struct Made {
     pub(crate) rowed: Rowed,
     pub(crate) reads: u32,
@@ -32,7 +32,7 @@ impl Made {
 }
 
 // What a definition is within the limits of depth and size: its layouts and what it reaches.
-#[derive(Drop)]
+#[derive(Clone, Copy)]
 pub(crate) enum Limited {
     Within(Layouts, Reach),
     Refused(Refusal),

@@ -36,13 +36,13 @@ skipped_below x a h = omega (arith, div-mul-le_self (x + (a - 1)) a)
 pub gaps_length : (e : ℕ) (fs : List Layout) → length (gaps e fs) ≡ length fs
 unfolding gaps
 gaps_length e [] = refl
-gaps_length e (f ∷ fs) = ap suc (gaps_length _ fs)
+gaps_length e (f ∷ fs) = ap suc (gaps_length (end_after e f) fs)
 
 -- each is below its member's alignment
 pub gaps_below : (e : ℕ) (fs : List Layout) → Aligned fs → Forall₂ (λ g f. g < f.align) (gaps e fs) fs
 unfolding gaps
 gaps_below e [] w = empty
-gaps_below e (f ∷ fs) w = pair (skipped_below e f.align (alignment_pos w.0)) (gaps_below _ fs w.1)
+gaps_below e (f ∷ fs) w = pair (skipped_below e f.align (alignment_pos w.0)) (gaps_below (end_after e f) fs w.1)
 
 -- nothing is skipped before the first of all
 pub first_gap : (f : Layout) (fs : List Layout) → Alignment f.align → get_or (gaps 0 (f ∷ fs)) 0 0 ≡ 0

@@ -259,7 +259,7 @@ placing_starts m t n ws room p = go (too_many ws) (no_table t n) (ltb room (leng
 pub starts_length : (e : ℕ) (fs : List Layout) → length (starts e fs) ≡ length fs
 unfolding starts
 starts_length e [] = refl
-starts_length e (f ∷ fs) = ap suc (starts_length _ fs)
+starts_length e (f ∷ fs) = ap suc (starts_length (end_after e f) fs)
 
 pub offsets_length : (m : Memory) (t : List ℕ) (n : ℕ) (ws : List ℕ) (room : ℕ) (p : Placing) → placing m t n ws room ≡ ok p → length p.offsets ≡ length ws
 offsets_length m t n ws room p e =

@@ -17,7 +17,7 @@ use crate::packed::{BOTH, HALF, unused_zero};
 use crate::repeat::repeat_words;
 use types::{MAX_FLAT_TYPES, Memory, NO_FLAT_COUNT, flag_groups, max};
 
-#[derive(Drop)]
+#[derive(Clone, Copy)]
 pub struct FlatTypes {
     pub count: u32,
     pub words: u64,

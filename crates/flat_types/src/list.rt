@@ -9,7 +9,7 @@ ghost use Rattle.flat_types.specs.Places.{append_to};
 
 use types::{MAX_FLAT_TYPES, Memory, NO_FLAT_COUNT};
 
-#[derive(Drop)]
+#[derive(Clone, Copy)]
 pub struct FlatList {
     pub count: u32,
     pub types: u64,

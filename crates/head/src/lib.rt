@@ -1,5 +1,7 @@
 // Reads the head of a definition: its kind, its count, where its references stand and where the next definition begins. Nothing that the
 // body says is tested here: neither a count nor a reference.
+#![tactic(auto)]
+
 ghost use Rattle.std.specs.Prelude.{◌≡◌, ◌*◌, ◌/◌, ◌%◌, ◌^◌, ◌≤◌, length};
 ghost use Rattle.canon.specs.Description.{kind_of};
 ghost use Rattle.head.specs.Means.{kind_means, kinded_means, head_means};
@@ -9,7 +11,7 @@ ghost use Rattle.head.specs.Heads.{before, behind, body_at, head_at};
 
 use types::Refusal;
 
-#[derive(Drop)]
+#[derive(Clone, Copy)]
 pub enum Kind {
     Record,
     Variant,
@@ -23,7 +25,7 @@ pub enum Kind {
     FixedLengthList,
 }
 
-#[derive(Drop)]
+#[derive(Clone, Copy)]
 enum Kinded {
     Kind(Kind),
     Bad,
@@ -31,7 +33,7 @@ enum Kinded {
 
 // The references stand from `first` to before `end`, the next definition from `next` on. `count` is the word after the kind word,
 // whatever it means there.
-#[derive(Drop)]
+#[derive(Clone, Copy)]
 pub struct Heading {
     pub kind: Kind,
     pub count: u32,
@@ -40,7 +42,7 @@ pub struct Heading {
     pub next: usize,
 }
 
-#[derive(Drop)]
+#[derive(Clone, Copy)]
 pub enum Head {
     Is(Heading),
     Refused(Refusal),

@@ -1,4 +1,6 @@
 // The boundary: each call takes numbers and slices, and answers one 64-bit number.
+#![tactic(auto)]
+
 mod build_bytes;
 mod given;
 mod leaves;

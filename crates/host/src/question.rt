@@ -18,7 +18,7 @@ use words::words_of;
 const BOTH_SLOTS: u32 = 2 * SLOTS;
 
 // Each has what the call of its name takes beside the table and the lists; a signature has its question and k.
-#[derive(Drop)]
+#[derive(Clone, Copy)]
 pub(crate) enum Question {
     Flatten(u32, u32),
     Lowering(u32, u32),

@@ -1,4 +1,6 @@
 // Reads a description's words from standard input and prints its rows and the build's answer.
+#![tactic(auto)]
+
 use libc::{STDIN_FILENO, STDOUT_FILENO};
 use listing::{INPUT_BYTES, MOST_BYTES};
 

@@ -1,4 +1,6 @@
 // Writes the text that tells what a build made of a description's bytes.
+#![tactic(auto)]
+
 mod lines;
 mod numbers;
 mod program;

@@ -3,7 +3,7 @@ use table::MemberPosition;
 use types::{CanonicalAbiInfo, Layout, Refusal};
 
 // What a type question answers: the five numbers, the flat words, the borrow and the depth.
-#[derive(Drop)]
+#[derive(Clone, Copy)]
 pub struct TypeInfo {
     pub abi: CanonicalAbiInfo,
     pub flat32: u32,
@@ -12,13 +12,13 @@ pub struct TypeInfo {
     pub depth: u32,
 }
 
-#[derive(Drop)]
+#[derive(Clone, Copy)]
 pub enum TypeAnswer {
     Info(TypeInfo),
     Refused(Refusal, MemberPosition),
 }
 
-#[derive(Drop)]
+#[derive(Clone, Copy)]
 pub enum LayoutAnswer {
     Layout(Layout),
     Refused(Refusal, MemberPosition),
@@ -26,14 +26,14 @@ pub enum LayoutAnswer {
 
 // What a placement answers of the whole: how many rows were read back for its members, its layout, and the gap after the last of them. With the
 // reads behind the layout short placements take longer (docs/BENCHMARKS.md).
-#[derive(Drop)]
+#[derive(Clone, Copy)]
 pub struct Whole {
     pub reads: u32,
     pub layout: Layout,
     pub after: u32,
 }
 
-#[derive(Drop)]
+#[derive(Clone, Copy)]
 pub enum PlacementAnswer {
     Whole(Whole),
     Refused(Refusal, MemberPosition),

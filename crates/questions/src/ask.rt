@@ -14,7 +14,7 @@ use table::{
 };
 use types::{CanonicalAbiInfo, FlatCount, NO_FLAT_COUNT, Refusal};
 
-#[derive(Drop)]
+#[derive(Clone, Copy)]
 enum Reading {
     Info(Info),
     Refused(Refusal),

@@ -1,4 +1,6 @@
 // The questions put to a table: what a reference stands for, and what a list of references does together.
+#![tactic(auto)]
+
 mod answer;
 mod ask;
 mod list;

@@ -11,20 +11,20 @@ use flat_types::FlatList;
 use table::{FIRST_DEFINITION, Found, MemberPosition, plain_info, row_flat, row_reach};
 use types::{Memory, Refusal};
 
-#[derive(Drop)]
+#[derive(Clone, Copy)]
 pub struct Gathering {
     pub flat: FlatList,
     pub borrow: bool,
 }
 
-#[derive(Drop)]
+#[derive(Clone, Copy)]
 pub enum Gathered {
     All(Gathering),
     Refused(Refusal, MemberPosition),
 }
 
 // What one reference gives.
-#[derive(Drop)]
+#[derive(Clone, Copy)]
 enum Next {
     One(Gathering),
     Refused(Refusal),

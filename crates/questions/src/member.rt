@@ -20,7 +20,7 @@ use table::{
 use types::{Layout, Memory, Refusal};
 
 // Holds the layout, and how many rows were read back so far.
-#[derive(Drop)]
+#[derive(Clone, Copy)]
 pub(crate) enum Member {
     Layout(Layout, u32),
     Refused(Refusal),

@@ -4,7 +4,7 @@ ghost use Rattle.questions.specs.Means.{pair_of, half_of};
 
 use types::FOUR_GIB;
 
-#[derive(Drop)]
+#[derive(Clone, Copy)]
 pub(crate) enum Half {
     Low,
     High,

@@ -11,7 +11,7 @@ use types::{Extent, FOUR_GIB, Layout, Refusal};
 
 // Holds the extent of the members so far, where the last of them starts, the gap before it, and the last that begins before the extent is too
 // large: where it is, the one that passed.
-#[derive(Drop)]
+#[derive(Clone, Copy)]
 pub(crate) struct Placed {
     extent: Extent,
     pub(crate) offset: u32,

@@ -10,7 +10,7 @@ use types::Refusal;
 // A list of references has at most so many.
 pub const MOST_REFERENCES: usize = 16384;
 
-#[derive(Drop)]
+#[derive(Clone, Copy)]
 pub(crate) enum Named {
     Row(DefinitionIndex),
     Refused(Refusal),

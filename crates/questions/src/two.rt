@@ -11,7 +11,7 @@ use crate::read::{no_table, too_many};
 use table::MemberPosition;
 use types::{Memory, Refusal};
 
-#[derive(Drop)]
+#[derive(Clone, Copy)]
 pub enum GatheredTwo {
     Both(Gathering, Gathering),
     Refused(Refusal, MemberPosition),

@@ -5,19 +5,21 @@
 //    1 description: w, the w words, n, then n rows of 16 words
 //   11 refused description: the number, the index, w, then words that are repeated until there are w
 // and every other kind, a question about the table before it, is passed over.
+#![tactic(auto)]
+
 use build::{Built, MAX_BYTES, MAX_WORDS, build};
 use libc::{STDIN_FILENO, STDOUT_FILENO};
 use table::{ROW_WORDS, TABLE_WORDS, capacity};
 use words::words_of;
 
-#[derive(Drop)]
+#[derive(Clone, Copy)]
 enum Compared {
     Same,
     Different,
     Passed,
 }
 
-#[derive(Drop)]
+#[derive(Clone, Copy)]
 struct Tally {
     compared: usize,
     different: usize,

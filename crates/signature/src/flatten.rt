@@ -21,20 +21,20 @@ pub const MAX_FLAT_ASYNC_PARAMS: u32 = 4;
 pub const MAX_FLAT_RESULTS: u32 = 1;
 
 // How one side of a call is compiled.
-#[derive(Drop)]
+#[derive(Clone, Copy)]
 pub struct Side {
     pub memory: Memory,
     pub async_: bool,
 }
 
-#[derive(Drop)]
+#[derive(Clone, Copy)]
 pub enum Flattened {
     List(FlatList),
     Memory,
     Refused(Refusal, MemberPosition),
 }
 
-#[derive(Drop)]
+#[derive(Clone, Copy)]
 pub enum BorrowAnswer {
     Reached(bool),
     Refused(Refusal, MemberPosition),

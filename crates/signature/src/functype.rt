@@ -12,7 +12,7 @@ use flat_types::FlatList;
 use questions::{GatheredTwo, gather_two};
 
 // Which end of a call a function is compiled for. The word is the standard's.
-#[derive(Drop)]
+#[derive(Clone, Copy)]
 pub enum Context {
     Lift,
     Lower,

@@ -1,4 +1,6 @@
 // Answers the core signatures of lifted and lowered functions, over a table and lent lists of references.
+#![tactic(auto)]
+
 mod flatten;
 mod functype;
 mod lists;

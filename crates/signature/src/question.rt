@@ -15,7 +15,7 @@ use questions::{GatheredTwo, gather_two};
 use types::Memory;
 
 // Each has what the function of its name takes beside the table and the lists: a start lower then lift, a return lift then lower.
-#[derive(Drop)]
+#[derive(Clone, Copy)]
 pub enum SignatureQuestion {
     AsyncStart(Side, Side),
     AsyncReturn(Side, Side),

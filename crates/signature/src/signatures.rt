@@ -12,13 +12,13 @@ use questions::{GatheredTwo, gather_two};
 use table::MemberPosition;
 use types::Refusal;
 
-#[derive(Drop)]
+#[derive(Clone, Copy)]
 pub struct Signature {
     pub params: FlatList,
     pub results: FlatList,
 }
 
-#[derive(Drop)]
+#[derive(Clone, Copy)]
 pub enum SignatureAnswer {
     Signature(Signature),
     Refused(Refusal, MemberPosition),

@@ -7,10 +7,10 @@ use types::{Layout, Layouts};
 // Is the reference to definition 0.
 pub const FIRST_DEFINITION: u32 = 64;
 
-#[derive(Drop)]
+#[derive(Clone, Copy)]
 pub struct DefinitionIndex(pub u32);
 
-#[derive(Drop)]
+#[derive(Clone, Copy)]
 pub struct MemberPosition(pub u32);
 
 // What a row holds where there is nothing to lay out.
@@ -19,7 +19,7 @@ pub const NO_LAYOUTS: Layouts = Layouts {
     in64: Layout { size: 0, align: 0 },
 };
 
-#[derive(Drop)]
+#[derive(Clone, Copy)]
 pub struct Info {
     pub layouts: Layouts,
     pub flat: FlatTypes,

@@ -1,5 +1,7 @@
 // A table in a lent buffer has a row of sixteen words for each definition, stored by columns; a reference without a definition stands for a
 // type of its own.
+#![tactic(auto)]
+
 mod cells;
 mod from_bytes;
 mod info;

@@ -11,7 +11,7 @@ use crate::reach::Reach;
 use flat_types::FlatTypes;
 use types::{CanonicalAbiInfo, Layout, Layouts};
 
-#[derive(Drop)]
+#[derive(Clone, Copy)]
 pub enum Found {
     Info(Info),
     BadRef,

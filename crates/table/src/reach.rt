@@ -8,11 +8,11 @@ use types::max;
 // No definition may be deeper.
 const DEEPEST: u32 = 100;
 
-#[derive(Drop)]
+#[derive(Clone, Copy)]
 pub struct Reach(pub u32);
 
 // What a definition reaches, by what its references reach.
-#[derive(Drop)]
+#[derive(Clone, Copy)]
 pub enum Deeper {
     Reach(Reach),
     TooDeep,

@@ -8,7 +8,7 @@ use crate::info::{DefinitionIndex, Info};
 use types::Layouts;
 
 // Words 8 to 14: what lies inside a variant or a map.
-#[derive(Drop)]
+#[derive(Clone, Copy)]
 pub struct Inner {
     pub discriminant: u32,
     pub offset32: u32,
@@ -16,7 +16,7 @@ pub struct Inner {
     pub entries: Layouts,
 }
 
-#[derive(Drop)]
+#[derive(Clone, Copy)]
 pub struct Row {
     pub kind: u32,
     pub info: Info,

@@ -9,19 +9,19 @@ use crate::discriminant::DiscriminantSize;
 use crate::extent::{Extent, Layout, Step};
 use crate::memory::Memory;
 
-#[derive(Drop)]
+#[derive(Clone, Copy)]
 pub struct Layouts {
     pub in32: Layout,
     pub in64: Layout,
 }
 
-#[derive(Drop)]
+#[derive(Clone, Copy)]
 pub struct Extents {
     pub in32: Extent,
     pub in64: Extent,
 }
 
-#[derive(Drop)]
+#[derive(Clone, Copy)]
 pub struct Steps {
     pub start32: u64,
     pub start64: u64,
@@ -29,7 +29,7 @@ pub struct Steps {
 }
 
 // Holds what closed extents have come to, where both memories can hold it.
-#[derive(Drop)]
+#[derive(Clone, Copy)]
 pub enum Fitted {
     Layouts(Layouts),
     TooLarge,

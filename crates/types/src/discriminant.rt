@@ -5,14 +5,14 @@ ghost use Rattle.types.specs.Leaves.{discriminant_answer};
 
 use crate::Refusal;
 
-#[derive(Drop)]
+#[derive(Clone, Copy)]
 pub enum DiscriminantSize {
     Size1,
     Size2,
     Size4,
 }
 
-#[derive(Drop)]
+#[derive(Clone, Copy)]
 pub enum DiscriminantAnswer {
     Size(DiscriminantSize),
     Refused(Refusal),

@@ -8,21 +8,21 @@ ghost use Rattle.types.specs.Extents.{extent_at, is_large, member_of, closing, c
 use crate::discriminant::DiscriminantSize;
 use crate::round::{LARGEST, is_alignment, max, round_up};
 
-#[derive(Drop)]
+#[derive(Clone, Copy)]
 pub struct Layout {
     pub size: u32,
     pub align: u32,
 }
 
 // The end stops at 4 GiB, which every rounding keeps: too large stays too large.
-#[derive(Drop)]
+#[derive(Clone, Copy)]
 pub struct Extent {
     pub end: u64,
     pub align: u32,
 }
 
 // Tells where a member starts, the bytes skipped before it, and the extent with it.
-#[derive(Drop)]
+#[derive(Clone, Copy)]
 pub struct Step {
     pub start: u64,
     pub skipped: u32,

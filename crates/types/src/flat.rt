@@ -10,7 +10,7 @@ pub const MAX_FLAT_TYPES: u32 = 16;
 // 01: "flat count, 255 for none".
 pub const NO_FLAT_COUNT: u32 = 255;
 
-#[derive(Drop)]
+#[derive(Clone, Copy)]
 pub enum FlatCount {
     Count(u8),
     None,

@@ -14,7 +14,7 @@ use crate::flat::{FlatCount, times_flat};
 use crate::memory::Memory;
 use crate::refusal::Refusal;
 
-#[derive(Drop)]
+#[derive(Clone, Copy)]
 pub struct CanonicalAbiInfo {
     pub size32: u32,
     pub align32: u32,
@@ -23,14 +23,14 @@ pub struct CanonicalAbiInfo {
     pub flat_count: FlatCount,
 }
 
-#[derive(Drop)]
+#[derive(Clone, Copy)]
 pub enum InfoAnswer {
     Info(CanonicalAbiInfo),
     Refused(Refusal),
 }
 
 // Tells where a field starts, where the next may at the earliest, and the bytes skipped before the field.
-#[derive(Drop)]
+#[derive(Clone, Copy)]
 pub enum NextField {
     At { offset: u32, end: u32, skipped: u32 },
     Refused(Refusal),

@@ -1,4 +1,6 @@
 // The leaves of layout are here: refusals, rounding, flat counts, the step in one memory and in both, and the info of a type.
+#![tactic(auto)]
+
 mod both;
 mod discriminant;
 mod extent;

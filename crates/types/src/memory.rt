@@ -1,5 +1,5 @@
 // The two memories differ in the width of their pointers.
-#[derive(Drop)]
+#[derive(Clone, Copy)]
 pub enum Memory {
     Memory32,
     Memory64,

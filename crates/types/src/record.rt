@@ -9,7 +9,7 @@ use crate::flat::{FlatCount, add_flat};
 use crate::info::{CanonicalAbiInfo, InfoAnswer};
 use crate::refusal::Refusal;
 
-#[derive(Drop)]
+#[derive(Clone, Copy)]
 pub struct RecordState {
     extents: Extents,
     flat: FlatCount,

@@ -11,14 +11,14 @@ use crate::Refusal;
 // No start, end or size may be above this, as 01 says of refusal 6.
 pub(crate) const LARGEST: u64 = 4294967295;
 
-#[derive(Drop)]
+#[derive(Clone, Copy)]
 pub enum Rounded {
     Value { value: u32, skipped: u32 },
     Refused(Refusal),
 }
 
 // Tells what a number is rounded up to, and the bytes skipped on the way.
-#[derive(Drop)]
+#[derive(Clone, Copy)]
 pub(crate) struct RoundedUp {
     pub(crate) value: u64,
     pub(crate) skipped: u32,

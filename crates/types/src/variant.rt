@@ -14,7 +14,7 @@ use crate::refusal::Refusal;
 // This is the first number of cases whose discriminant takes four bytes; a count above it tells nothing more.
 const ENOUGH: u32 = 65537;
 
-#[derive(Drop)]
+#[derive(Clone, Copy)]
 pub struct VariantState {
     layouts: Layouts,
     flat: FlatCount,
@@ -22,14 +22,14 @@ pub struct VariantState {
     bad: bool,
 }
 
-#[derive(Drop)]
+#[derive(Clone, Copy)]
 pub struct VariantInfo {
     pub size: DiscriminantSize,
     pub payload_offset32: u32,
     pub payload_offset64: u32,
 }
 
-#[derive(Drop)]
+#[derive(Clone, Copy)]
 pub enum VariantAnswer {
     Variant(VariantInfo, CanonicalAbiInfo),
     Refused(Refusal),

@@ -45,6 +45,7 @@ length_whole b = length_words b 0 (length b / 4)
 -- what stands at a place among the words
 word_of : (b : List ℕ) (k n i : ℕ) → i < n → get_or (words_of b k n) i 0 ≡ word_at b (k + i)
 unfolding words_of
+word_of b k zero i h = elim h [ ]
 word_of b k (suc n) zero h = ap (word_at b) (sym (add-zero k))
 word_of b k (suc n) (suc i) h = word_of b (suc k) n i (omega arith) ∙ ap (word_at b) (suc-add k i ∙ sym (add-suc k i))
 

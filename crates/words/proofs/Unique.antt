@@ -4,6 +4,7 @@ use mathlib.Core.List.{List, ◌++◌}
 use Prim.Native.Nat.{ℕ}
 use contract.Lifetimes.{Lfts}
 use lib.ListN.{take, drop}
+use denote.Bor.{Bor}
 use denote.Ref.{MutBor, at_last}
 use Rattle.words.specs.Words.{whole_words}
 use Rattle.words.proofs.reading.from_le_bytes.Reads as from_le_bytes
@@ -19,7 +20,7 @@ pub from_le_bytes_one :
     r ≡ q
 from_le_bytes_one κs a b c d r q g h = g ∙ sym h
 
-pub word_at_one : (κs : Lfts 1) (b : MutBor (List ℕ)) (k r q : ℕ) → word_at.Post κs (b, (k, tt)) r (b, (k, tt)) → word_at.Post κs (b, (k, tt)) q (b, (k, tt)) → r ≡ q
+pub word_at_one : (κs : Lfts 1) (b : Bor (List ℕ)) (k r q : ℕ) → word_at.Post κs (b, (k, tt)) r (b, (k, tt)) → word_at.Post κs (b, (k, tt)) q (b, (k, tt)) → r ≡ q
 word_at_one κs b k r q g h = g ∙ sym h
 
 pub put_word_at_one :
@@ -29,7 +30,7 @@ pub put_word_at_one :
     l ≡ m
 put_word_at_one κs b k w l m g h = g ∙ sym h
 
-module _ (κs : Lfts 2) (s t : MutBor (List ℕ)) (l k : List ℕ) where
+module _ (κs : Lfts 2) (s : Bor (List ℕ)) (t : MutBor (List ℕ)) (l k : List ℕ) where
   pub words_of_one :
       (r q : ℕ) →
       words_of.Post κs (s, (t, tt)) r (s, (at_last t l, tt)) →

@@ -1,4 +1,6 @@
 // Reads little-endian words from lent bytes, and puts words into them.
+#![tactic(auto)]
+
 mod reading;
 mod writing;
 

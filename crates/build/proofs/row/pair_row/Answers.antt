@@ -1,0 +1,6 @@
+-- The numbers are a pair's constants.
+use borrow.Author.Rules.{rules}
+use Rattle.build.proofs.row.pair_row.Goals as goal
+
+pub returns : goal.returns
+returns c = rw (c.row_of.ensures, c.layouts-layouts.ensures)

@@ -1,0 +1,16 @@
+-- A bad reference, or the row of a list of what it names.
+use Rattle.canon.specs.Answer.{and_then}
+use Rattle.build.proofs.Wording.{if_row_holds}
+use borrow.Author.Rules.{rules}
+use Rattle.build.proofs.simple.list_row.Goals as goal
+
+pub returns-in-BadRef : goal.returns-in-BadRef
+unfolding and_then
+returns-in-BadRef c = (simp (← c.member_at.ensures.result_value, c.in-BadRef.is), tt)
+
+pub returns-in-Info : goal.returns-in-Info
+unfolding and_then
+returns-in-Info c = (
+  simp (c.list_of.ensures, ← c.member_at.ensures.result_value, c.in-Info.is),
+  if_row_holds c.list_of.result (rw c.in-Info.is at c.member_at.ensures.looked_reads),
+)

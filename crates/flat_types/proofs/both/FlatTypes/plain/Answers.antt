@@ -1,0 +1,38 @@
+-- String by itself, nothing past the last, each scalar at its place in the constant (`scalar_code`).
+use mathlib.Core.Path.{◌≡◌, refl}
+use native.Mathlib.Omega.{arith}
+use lib.ListN.{get_elem?}
+use Rattle.canon.specs.Answer.{map_option}
+use Rattle.canon.specs.Flat.{flatten}
+use Rattle.canon.specs.Layout.{Memory, mem32, mem64, within}
+use Rattle.canon.specs.Pack.{pack}
+use Rattle.canon.specs.Types.{plain}
+use Rattle.flat_types.specs.Lists.{packed_to, packed, halves}
+use Rattle.flat_types.proofs.Halves.{twice_is}
+use Rattle.flat_types.proofs.Listing.{holds, holds_none}
+use Rattle.flat_types.proofs.References.{code_at, scalar_code, past, code_small, code_fits}
+use borrow.Author.Rules.{rules}
+use Rattle.flat_types.proofs.both.FlatTypes.plain.Goals as goal
+
+-- the constant's words, in each memory
+pair : (m : Memory) → record { number = 2; types = within m (halves 21474836480) } ≡ packed (map_option (flatten m) (get_elem? plain 12))
+unfolding packed_to pack flatten
+pair mem32 = refl
+pair mem64 = refl
+
+pub returns-then-reference-gt17 : goal.returns-then-reference-gt17
+unfolding packed_to
+returns-then-reference-gt17 c =
+    let e = past plain c.args.reference (omega arith) in
+    holds_none (λ m. map_option (flatten m) (get_elem? plain c.args.reference)) (λ m. rw e)
+
+pub returns-then-reference-eq12 : goal.returns-then-reference-eq12
+returns-then-reference-eq12 c = rw c.if-reference-eq12.true pair
+
+pub overflow_mul-result : goal.overflow_mul-result
+overflow_mul-result c = search (rules, code_fits)
+
+pub returns : goal.returns
+returns c =
+    let k = c.args.reference in
+    holds (λ m. map_option (flatten m) (get_elem? plain k)) (λ m. code_at k) (twice_is (code_at k)) (code_small k) (λ m. scalar_code m k (omega arith) c.if-reference-eq12.false)

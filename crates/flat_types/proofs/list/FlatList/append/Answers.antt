@@ -1,0 +1,6 @@
+-- At most 16 types.
+use borrow.Author.Rules.{rules}
+use Rattle.flat_types.proofs.list.FlatList.append.Goals as goal
+
+pub returns : goal.returns
+returns c = c.append_to.ensures

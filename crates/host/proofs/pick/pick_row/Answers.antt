@@ -1,0 +1,40 @@
+-- Each case of a reference, by its law.
+use mathlib.Core.Path.{ap, ◌∙◌}
+use mathlib.Core.List.{List}
+use Prim.Native.Nat.{ℕ, ◌+◌}
+use native.Mathlib.Omega.{arith}
+use lib.ListN.{length}
+use Rattle.canon.proofs.Cells.{room_fits}
+use Rattle.words.specs.Words.{whole_words}
+use Rattle.host.specs.Picked.{read_picked}
+use Rattle.host.proofs.Picked.{same_kept, plain_picked, none_picked, row_picked, others_kept}
+use borrow.Author.Rules.{rules}
+use Rattle.host.proofs.pick.pick_row.Goals as goal
+
+pub returns-then-reference-lt-FIRST_DEFINITION : goal.returns-then-reference-lt-FIRST_DEFINITION
+returns-then-reference-lt-FIRST_DEFINITION c =
+    let a = c.args in
+    ((omega arith, plain_picked (whole_words a.table.now) a.rows a.reference a.picked.now a.slot c.if-reference-lt-FIRST_DEFINITION.true), same_kept a.slot a.picked.now)
+
+pub overflow_add-result : goal.overflow_add-result
+overflow_add-result c =
+    let a = c.args in
+    let p = c.requires in
+    omega (arith, p.1, (room_fits (length a.picked.now)).0)
+
+pub returns-then-index-rows : goal.returns-then-index-rows
+returns-then-index-rows c =
+    let a = c.args in
+    let p = c.requires in
+    let t = whole_words a.table.now in
+    let low = c.if-reference-lt-FIRST_DEFINITION.false in
+    let high = c.if-index-rows.true in
+    let after = c.take_row.ensures in (
+      (omega arith, ap (λ (q : List ℕ). read_picked q (64 + a.slot)) after ∙ row_picked t a.rows a.reference a.picked.now a.slot p.0 p.1 low high),
+      rw after (others_kept t a.rows a.reference a.picked.now a.slot p.0 p.1 low high),
+    )
+
+pub returns : goal.returns
+returns c =
+    let a = c.args in
+    ((omega arith, none_picked (whole_words a.table.now) a.rows a.reference a.picked.now a.slot c.if-reference-lt-FIRST_DEFINITION.false c.if-index-rows.false), same_kept a.slot a.picked.now)

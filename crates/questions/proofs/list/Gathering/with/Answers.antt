@@ -1,0 +1,9 @@
+-- One list behind the other, and the borrow of either.
+use borrow.Author.Rules.{rules}
+use Rattle.questions.proofs.list.Gathering.with.Goals as goal
+
+pub returns-then-self : goal.returns-then-self
+returns-then-self c = rw (c.append.ensures, c.if-self.true)
+
+pub returns-else-self : goal.returns-else-self
+returns-else-self c = rw (c.append.ensures, c.if-self.false)

@@ -1,0 +1,119 @@
+-- The loop's invariant: these infos have been read, the members stand as canon places them, the memo has what was read, and the rows read back are
+-- counted (`goes_on`, `stands_more`, `Recalled`, `rows_next`).
+use mathlib.Core.Path.{◌≡◌, refl, sym, ap, ap₂, ◌∙◌}
+use mathlib.Core.List.{List, [], ◌∷◌, ◌++◌}
+use Prim.Native.Nat.{ℕ, ◌-◌, ◌≤◌, ◌<◌}
+use native.Mathlib.Nat.{le_antisymm}
+use native.Mathlib.Omega.{arith}
+use lib.ListN.{length, get_or, take, length-take}
+use lib.Seq.{take_all}
+use borrow.Author.Count.{below_more}
+use borrow.Author.Rules.{rules}
+use Rattle.canon.specs.Answer.{Answer, then}
+use Rattle.canon.specs.Layout.{Layout}
+use Rattle.canon.specs.Row.{Info, info_layout}
+use Rattle.canon.specs.Question.{read, layouts_in}
+use Rattle.canon.specs.Cost.{rows_among, reported}
+use Rattle.canon.proofs.Costs.{rows_among_most, rows_next}
+use Rattle.canon.proofs.Questions.{read_aligned}
+use Rattle.canon.proofs.Tests.{impossible}
+use Rattle.types.specs.Means.{memory_of, number_of, layout_means}
+use Rattle.questions.specs.Means.{member_means}
+use Rattle.questions.specs.Steps.{member_layout, next_place, Remembers}
+use Rattle.questions.proofs.References.{part_is, Read, begins, goes_on, stops, ends}
+use Rattle.questions.proofs.Members.{layouts_more, Stands, nothing_stands, stands_more, finish_is, placed_starts}
+use Rattle.questions.proofs.Memos.{known_all}
+use Rattle.questions.proofs.placing.judge.Goals as goal
+
+pub loop-k-init : goal.loop-k-init
+unfolding rows_among
+loop-k-init c =
+    let a = c.args in
+    let p = c.requires in (
+      search rules,
+      p.2,
+      ([], begins (read a.table.now a.n) a.references.now, nothing_stands),
+      p.3,
+      λ j h. absurd (omega arith),
+      refl,
+    )
+
+pub recall-requires : goal.recall-requires
+recall-requires c =
+    let a = c.args in
+    let l = c.loop-k in (
+      c.requires.0,
+      omega (arith, l.invariant.5, rows_among_most (take l.k a.references.now), length-take l.k a.references.now, c.requires.1),
+      l.invariant.1,
+      l.invariant.3,
+    )
+
+pub returns-in-Refused : goal.returns-in-Refused
+unfolding then
+returns-in-Refused c = let a = c.args in
+    let l = c.loop-k in
+    let w = c.why-1.given in
+    let look = read a.table.now a.n in
+    let e =
+    stops look a.references.now (info_layout (memory_of a.memory)) l.k l.invariant.2.0 (number_of w.0.0) l.invariant.2.1
+    (sym (ap member_means w.1) ∙ c.recall.ensures.result_value) c.loop-k-test.true in
+    (record { answer = rw e; reads = rw e; after = rw e }, λ q f. impossible (let g = rw e at f in cc))
+
+pub overflow_add-k : goal.overflow_add-k
+overflow_add-k c =
+    omega (arith, c.loop-k-test.true, c.requires.1)
+
+pub loop-k-preserved : goal.loop-k-preserved
+loop-k-preserved c = let a = c.args in
+    let p = c.requires in
+    let l = c.loop-k in
+    let test = c.loop-k-test.true in
+    let m = memory_of a.memory in
+    let look = read a.table.now a.n in
+    let w = get_or a.references.now l.k 0 in
+    let done = l.invariant.2.0 in
+    let g = c.layout-1.given in
+    let f = layout_means g.0.0 in
+    let rc = c.recall in
+    let r = part_is (info_layout m) (look w) f (sym (ap member_means g.1) ∙ rc.ensures.0) in
+    let q = c.next-placed.ensures ∙ ap (λ (x : Layout). next_place l.placed x (record { 0 = l.k })) (sym r.2) in
+    let al = read_aligned m a.table.now a.n w r.0 r.1 in (
+      search rules,
+      search rules,
+      (
+        done ++ r.0 ∷ [],
+        goes_on look a.references.now l.k done r.0 l.invariant.2.1 r.1 test,
+        rw (layouts_more m done r.0) (stands_more l.placed (layouts_in m done) l.k l.invariant.2.2 (info_layout m r.0) al c.next-placed.result q),
+      ),
+      rc.ensures.1.1.holds,
+      below_more _ _ (λ j h. rc.ensures.1.1.keeps _ (l.invariant.4 j h)) (rc.ensures.1.1.found f (sym rc.ensures.0 ∙ ap member_means g.1)),
+      omega (arith, l.invariant.5, rw g.1 at rc.ensures.1.0, rows_next a.references.now l.k test),
+    )
+
+pub returns : goal.returns
+unfolding then
+returns c = let a = c.args in
+    let l = c.loop-k in
+    let done = l.invariant.2.0 in
+    let m = memory_of a.memory in
+    let fs = layouts_in m done in
+    let st = l.invariant.2.2 in
+    let k = le_antisymm l.invariant.0 c.loop-k-test.false in
+    let e = ends (read a.table.now a.n) a.references.now l.k done l.invariant.2.1 c.loop-k-test.false in
+    let f = finish_is l.placed fs l.k st in
+    let all = l.invariant.5 ∙ ap rows_among (take_all l.k a.references.now c.loop-k-test.false) in (
+      record {
+        answer = rw e (c.finish.ensures.0 ∙ f.0);
+        reads = rw e (c.finish.ensures.1 ∙ ap₂ (λ (x : Answer Layout) (n : ℕ). reported x n) f.0 all);
+        after = rw e (c.finish.ensures.2 ∙ f.1);
+      },
+      λ q g.
+          let b = placed_starts l.placed fs l.k st q (rw e at g) in
+          let there = rw k at l.invariant.4 in
+          let same = known_all m a.table.now a.n l.memo l.invariant.3 0 a.references.now done e there in
+          record {
+            all = record { there = there; aligned = rw same st.aligned; fits = rw same b.2 };
+            offsets = rw same b.0;
+            gaps = rw same b.1;
+          },
+    )

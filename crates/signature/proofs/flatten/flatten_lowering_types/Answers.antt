@@ -1,0 +1,6 @@
+-- Lowering's maximum.
+use borrow.Author.Rules.{rules}
+use Rattle.signature.proofs.flatten.flatten_lowering_types.Goals as goal
+
+pub returns : goal.returns
+returns c = rw (← c.lowering_max.ensures) c.flatten_types.ensures

@@ -1,0 +1,11 @@
+-- String, or as many bytes as its halvings leave.
+use borrow.Author.Tests.{ne_eqb}
+use Rattle.table.proofs.References.{string_is, halved_is}
+use borrow.Author.Rules.{rules}
+use Rattle.table.proofs.plain.layouts.Goals as goal
+
+pub returns-then-reference-eq-STRING : goal.returns-then-reference-eq-STRING
+returns-then-reference-eq-STRING c = rw c.layouts.ensures (string_is c.if-reference-eq-STRING.true).0
+
+pub returns : goal.returns
+returns c = halved_is c.args.reference c.requires (ne_eqb _ _ c.if-reference-eq-STRING.false)

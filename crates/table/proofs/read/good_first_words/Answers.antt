@@ -1,0 +1,31 @@
+-- The kind, then the layouts.
+use mathlib.Core.Path.{ap}
+use mathlib.Core.Bool.{Bool, ◌&&◌}
+use borrow.Author.Tests.{le-leb, lt-leb}
+use Rattle.canon.specs.Layout.{Both, Layout}
+use Rattle.canon.specs.Row.{good_layout}
+use Rattle.table.specs.Rows.{good_first_words}
+use borrow.Author.Rules.{rules}
+use Rattle.table.proofs.read.good_first_words.Goals as goal
+
+abbrev goodLayouts : Both Layout → Bool
+goodLayouts b = good_layout b.in32 && good_layout b.in64
+
+pub returns-then-kind-lt1 : goal.returns-then-kind-lt1
+unfolding good_first_words
+returns-then-kind-lt1 c = rw (← c.word-kind.ensures, lt-leb _ _ c.if-kind-lt1.true)
+
+pub returns-then-kind-gt10 : goal.returns-then-kind-gt10
+unfolding good_first_words
+returns-then-kind-gt10 c = rw (← c.word-kind.ensures, le-leb _ _ c.if-kind-lt1.false, lt-leb _ _ c.if-kind-gt10.true)
+
+pub returns : goal.returns
+unfolding good_first_words
+returns c =
+    rw (
+      ← c.word-kind.ensures,
+      le-leb _ _ c.if-kind-lt1.false,
+      le-leb _ _ c.if-kind-gt10.false,
+      ← ap goodLayouts c.row_layouts.ensures,
+    )
+    c.is_good.ensures

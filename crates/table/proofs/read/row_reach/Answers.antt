@@ -1,0 +1,6 @@
+-- The word as it stands.
+use borrow.Author.Rules.{rules}
+use Rattle.table.proofs.read.row_reach.Goals as goal
+
+pub returns : goal.returns
+returns c = rw c.word.ensures

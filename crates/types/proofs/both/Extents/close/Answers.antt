@@ -1,0 +1,6 @@
+-- The two memories call by call.
+use borrow.Author.Rules.{rules}
+use Rattle.types.proofs.both.Extents.close.Goals as goal
+
+pub returns : goal.returns
+returns c = simp (c.close.ensures, c.close-2.ensures)

@@ -1,0 +1,6 @@
+-- From what `max` ensures.
+use borrow.Author.Rules.{rules}
+use Rattle.types.proofs.extent.Layout.widest.Goals as goal
+
+pub returns : goal.returns
+returns c = simp (c.max.ensures, c.max-2.ensures)
