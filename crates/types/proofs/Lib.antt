@@ -9,5 +9,3 @@ pub mod Told
 pub mod Unique
 pub mod Promises
 mod Fold
-mod Infos
-mod Called

@@ -72,7 +72,7 @@ use Rattle.types.proofs.info.CanonicalAbiInfo.next_field32.Reads as next-field32
 use Rattle.types.proofs.info.CanonicalAbiInfo.next_field64.Reads as next-field64-reads
 use Rattle.types.proofs.info.CanonicalAbiInfo.flags.Reads as flags-reads
 use Rattle.types.proofs.info.CanonicalAbiInfo.variant.Reads as variant-info-reads
-use Rattle.types.proofs.info.CanonicalAbiInfo.enum◌.Reads as enum-reads
+use Rattle.types.proofs.info.CanonicalAbiInfo.enum_.Reads as enum-reads
 use Rattle.types.proofs.record.RecordState.start.Reads as record-start-reads
 use Rattle.types.proofs.record.RecordState.field.Reads as field-reads
 use Rattle.types.proofs.variant.VariantState.start.Reads as variant-start-reads

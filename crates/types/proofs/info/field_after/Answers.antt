@@ -1,9 +1,14 @@
 -- The field is a member of an extent that begins at the end.
 use mathlib.Core.Path.{◌≡◌, sym, ◌∙◌}
-use Prim.Native.Nat.{◌+◌, ◌≤◌}
+use Prim.Native.Nat.{ℕ, ◌+◌, ◌≤◌}
 use native.Mathlib.Omega.{arith}
 use borrow.Author.Tests.{ltb-false}
-use Rattle.canon.specs.Layout.{largest_number}
+use Rattle.canon.specs.Layout.{Layout, largest_number}
+use mathlib.Core.Bool.{Bool, false}
+use lib.Dec.{ltb}
+use Rattle.types.specs.Extents.{member_of}
+use Rattle.types.specs.declared.extent.Extent.{Extent}
+use Rattle.types.specs.declared.extent.Step.{Step}
 use Rattle.canon.proofs.Rounding.{alignment_tested}
 use Rattle.types.specs.Means.{layout_means}
 use Rattle.types.proofs.ExtentLaws.{member_fits}
@@ -12,13 +17,11 @@ use borrow.Author.Rules.{rules}
 use Rattle.types.proofs.info.field_after.Goals as goal
 
 -- what the test says of the end, and so of the start
-fits : (c : goal.Else1) → c.member-step.result.extent.end ≤ largest_number
-fits c = ltb-false largest_number c.member-step.result.extent.end (sym c.is_large.ensures ∙ c.if-is_large.false)
+fits : (e : ℕ) (b : Bool) → b ≡ ltb largest_number e → b ≡ false → e ≤ largest_number
+fits e b t h = ltb-false largest_number e (sym t ∙ h)
 
-starts : (c : goal.Else1) → c.member-step.result.start + c.args.field.size ≡ c.member-step.result.extent.end
-starts c =
-    let m = c.member-step in
-    rw m.ensures (member_fits _ (layout_means c.args.field) (rw m.ensures at (fits c)))
+starts : (x : Extent) (f : Layout) (s : Step) → s ≡ member_of x f → s.extent.end ≤ largest_number → s.start + f.size ≡ s.extent.end
+starts x f s e h = rw e (member_fits x f (rw e at h))
 
 pub returns-then-is_large : goal.returns-then-is_large
 returns-then-is_large c =
@@ -31,10 +34,12 @@ returns-then-is_large c =
     )
 
 pub overflow_cast-result : goal.overflow_cast-result
-overflow_cast-result c = omega (arith, fits c, starts c)
+overflow_cast-result c =
+    let fit = fits c.member-step.result.extent.end _ c.is_large.ensures c.if-is_large.false in
+    omega (arith, fit, starts _ (layout_means c.args.field) _ c.member-step.ensures fit)
 
 pub overflow_cast-result-2 : goal.overflow_cast-result-2
-overflow_cast-result-2 c = omega (arith, fits c)
+overflow_cast-result-2 c = omega (arith, fits c.member-step.result.extent.end _ c.is_large.ensures c.if-is_large.false)
 
 pub returns : goal.returns
 returns c =
