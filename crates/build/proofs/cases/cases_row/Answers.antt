@@ -23,10 +23,10 @@ returns-in-BadRef c =
     let a = c.args in
     let look = case_look (member_look a.table.now a.index.0) in
     let row = payloads_row a.kind (bytes_of a.size) in
-    let l = c.loop-at in (
-      sym (stop look add_if_payload row a.words.now l.at a.end (payloads_means l.payloads) 4 (sym c.add_case.ensures.result_value ∙ ap joined_means c.in-BadRef.is) (omega arith) (omega arith)) ∙ l.invariant.3,
-      tt,
-    )
+    let l = c.loop-at in record {
+      rowed_value = sym (stop look add_if_payload row a.words.now l.at a.end (payloads_means l.payloads) 4 (sym c.add_case.ensures.result_value ∙ ap joined_means c.in-BadRef.is) (omega arith) (omega arith)) ∙ l.invariant.3;
+      made_reads = tt;
+    }
 
 pub overflow_add-reads : goal.overflow_add-reads
 overflow_add-reads c =
@@ -53,7 +53,7 @@ returns c =
     let a = c.args in
     let look = case_look (member_look a.table.now a.index.0) in
     let row = payloads_row a.kind (bytes_of a.size) in
-    let l = c.loop-at in (
-      c.row.ensures ∙ sym (over look add_if_payload row a.words.now l.at a.end (payloads_means l.payloads) (omega arith)) ∙ l.invariant.3,
-      if_row_holds c.row.result (reads_over a.words.now l.at a.end l.reads _ l.invariant.4 (omega arith)),
-    )
+    let l = c.loop-at in record {
+      rowed_value = c.row.ensures ∙ sym (over look add_if_payload row a.words.now l.at a.end (payloads_means l.payloads) (omega arith)) ∙ l.invariant.3;
+      made_reads = if_row_holds c.row.result (reads_over a.words.now l.at a.end l.reads _ l.invariant.4 (omega arith));
+    }

@@ -14,17 +14,17 @@ use Rattle.build.proofs.cases.variant_row.Goals as goal
 pub returns-in-Refused : goal.returns-in-Refused
 unfolding variant_row and_then
 returns-in-Refused c =
-    let a = c.args in (
-      rw (between_length a.words.now a.first a.end (omega arith), ← c.from_count.ensures, c.in-Refused.is),
-      tt,
-    )
+    let a = c.args in record {
+      rowed_value = rw (between_length a.words.now a.first a.end (omega arith), ← c.from_count.ensures, c.in-Refused.is);
+      made_reads = tt;
+    }
 
 pub returns-in-Size : goal.returns-in-Size
 unfolding variant_row
 returns-in-Size c = let a = c.args in
-    let s = c.size-1.given in (
-      rw (between_length a.words.now a.first a.end (omega arith))
+    record {
+      rowed_value = rw (between_length a.words.now a.first a.end (omega arith))
           (c.cases_row.ensures.rowed_value
-          ∙ sym (then_is (discriminant_answer (a.end - a.first)) (bytes_of s.0.0) _ (sym c.from_count.ensures ∙ ap discriminant_means s.1))),
-      c.cases_row.ensures.made_reads,
-    )
+          ∙ sym (then_is (discriminant_answer (a.end - a.first)) (bytes_of c.in-Size.size) _ (sym c.from_count.ensures ∙ ap discriminant_means c.in-Size.is)));
+      made_reads = c.cases_row.ensures.made_reads;
+    }

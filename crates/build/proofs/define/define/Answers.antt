@@ -20,19 +20,22 @@ kind_row-made-requires c =
 
 pub returns-in-Refused : goal.returns-in-Refused
 unfolding defined_at and_then
-returns-in-Refused c = (simp (← c.read_head.ensures, c.in-Refused.is), tt)
+returns-in-Refused c = record {
+  result_value = simp (← c.read_head.ensures, c.in-Refused.is);
+  defined_reads = tt;
+}
 
 pub returns-in-Refused-rowed : goal.returns-in-Refused-rowed
 unfolding defined_at and_then
-returns-in-Refused-rowed c = (
-  simp (← c.read_head.ensures, c.in-Is.is, ← c.kind_row-made.ensures.rowed_value, c.in-Refused-rowed.is),
-  tt,
-)
+returns-in-Refused-rowed c = record {
+  result_value = simp (← c.read_head.ensures, c.in-Is.is, ← c.kind_row-made.ensures.rowed_value, c.in-Refused-rowed.is);
+  defined_reads = tt;
+}
 
 pub returns-in-Row : goal.returns-in-Row
 unfolding defined_at and_then
-returns-in-Row c = let a = c.args in (
-  simp (← c.read_head.ensures, c.in-Is.is, ← c.kind_row-made.ensures.rowed_value, c.in-Row.is),
-  rw c.in-Row.is at c.kind_row-made.ensures.made_reads
-      ∙ ap rows_among (references_behind_lem a.words.now a.at _ (sym c.read_head.ensures ∙ ap head_means c.in-Is.is)),
-)
+returns-in-Row c = let a = c.args in record {
+  result_value = simp (← c.read_head.ensures, c.in-Is.is, ← c.kind_row-made.ensures.rowed_value, c.in-Row.is);
+  defined_reads = rw c.in-Row.is at c.kind_row-made.ensures.made_reads
+      ∙ ap rows_among (references_behind_lem a.words.now a.at _ (sym c.read_head.ensures ∙ ap head_means c.in-Is.is));
+}

@@ -40,69 +40,69 @@ fixed_row-requires c =
     )
 
 pub returns-in-Record : goal.returns-in-Record
-returns-in-Record c = let a = c.args in (
-  rw c.kind_word.ensures at c.members_row.ensures.rowed_value
-      ∙ members_arm (member_look a.table.now a.index.0) a.words.now a.heading.count a.heading.first a.heading.end a.heading.kind c.in-Record.keys1,
-  c.members_row.ensures.made_reads,
-)
+returns-in-Record c = let a = c.args in record {
+  rowed_value = rw c.kind_word.ensures at c.members_row.ensures.rowed_value
+      ∙ members_arm (member_look a.table.now a.index.0) a.words.now a.heading.count a.heading.first a.heading.end a.heading.kind c.in-Record.keys1;
+  made_reads = c.members_row.ensures.made_reads;
+}
 
 pub returns-in-Variant : goal.returns-in-Variant
-returns-in-Variant c = let a = c.args in (
-  rw c.kind_word-in-Variant.ensures at c.variant_row.ensures.rowed_value
-      ∙ cases_arm (member_look a.table.now a.index.0) a.words.now a.heading.count a.heading.first a.heading.end a.heading.kind c.in-Variant.keys2,
-  c.variant_row.ensures.made_reads,
-)
+returns-in-Variant c = let a = c.args in record {
+  rowed_value = rw c.kind_word-in-Variant.ensures at c.variant_row.ensures.rowed_value
+      ∙ cases_arm (member_look a.table.now a.index.0) a.words.now a.heading.count a.heading.first a.heading.end a.heading.kind c.in-Variant.keys2;
+  made_reads = c.variant_row.ensures.made_reads;
+}
 
 pub returns-in-List : goal.returns-in-List
 unfolding row_of_kind
 returns-in-List c = let a = c.args in
     let s = c.requires.0 in
-    let told = c.in-List.is in (
-      rw told c.list_row.ensures.rowed_value,
-      rw (one_between a.words.now a.heading.first a.heading.end (rw told at s.references) (omega (arith, rw told at s.references, rw told at s.numbers, s.inside))) c.list_row.ensures.made_reads,
-    )
+    let told = c.in-List.is in record {
+      rowed_value = rw told c.list_row.ensures.rowed_value;
+      made_reads = rw (one_between a.words.now a.heading.first a.heading.end (rw told at s.references) (omega (arith, rw told at s.references, rw told at s.numbers, s.inside))) c.list_row.ensures.made_reads;
+    }
 
 pub returns-in-Map : goal.returns-in-Map
 unfolding row_of_kind
 returns-in-Map c = let a = c.args in
     let s = c.requires.0 in
-    let told = c.in-Map.is in (
-      rw told c.map_row.ensures.rowed_value,
-      rw (two_between a.words.now a.heading.first a.heading.end (rw told at s.references) (omega (arith, rw told at s.references, rw told at s.numbers, s.inside))) c.map_row.ensures.made_reads,
-    )
+    let told = c.in-Map.is in record {
+      rowed_value = rw told c.map_row.ensures.rowed_value;
+      made_reads = rw (two_between a.words.now a.heading.first a.heading.end (rw told at s.references) (omega (arith, rw told at s.references, rw told at s.numbers, s.inside))) c.map_row.ensures.made_reads;
+    }
 
 pub returns-in-Flags : goal.returns-in-Flags
 unfolding row_of_kind rows_among
 returns-in-Flags c = let a = c.args in
     let s = c.requires.0 in
-    let told = c.in-Flags.is in (
-      rw told c.flags_row.ensures,
-      if_row_holds c.flags_row.result (rw (none_between a.words.now a.heading.first a.heading.end (rw told at s.references ∙ add-zero a.heading.first))),
-    )
+    let told = c.in-Flags.is in record {
+      rowed_value = rw told c.flags_row.ensures;
+      made_reads = if_row_holds c.flags_row.result (rw (none_between a.words.now a.heading.first a.heading.end (rw told at s.references ∙ add-zero a.heading.first)));
+    }
 
 pub returns-in-Enum : goal.returns-in-Enum
 unfolding row_of_kind rows_among
 returns-in-Enum c = let a = c.args in
     let s = c.requires.0 in
-    let told = c.in-Enum.is in (
-      rw told c.enum_row.ensures,
-      if_row_holds c.enum_row.result (rw (none_between a.words.now a.heading.first a.heading.end (rw told at s.references ∙ add-zero a.heading.first))),
-    )
+    let told = c.in-Enum.is in record {
+      rowed_value = rw told c.enum_row.ensures;
+      made_reads = if_row_holds c.enum_row.result (rw (none_between a.words.now a.heading.first a.heading.end (rw told at s.references ∙ add-zero a.heading.first)));
+    }
 
 pub returns-in-Option : goal.returns-in-Option
 unfolding row_of_kind
 returns-in-Option c = let a = c.args in
     let s = c.requires.0 in
-    let told = c.in-Option.is in (
-      rw told c.option_row.ensures.rowed_value,
-      rw (one_between a.words.now a.heading.first a.heading.end (rw told at s.references) (omega (arith, rw told at s.references, rw told at s.numbers, s.inside))) c.option_row.ensures.made_reads,
-    )
+    let told = c.in-Option.is in record {
+      rowed_value = rw told c.option_row.ensures.rowed_value;
+      made_reads = rw (one_between a.words.now a.heading.first a.heading.end (rw told at s.references) (omega (arith, rw told at s.references, rw told at s.numbers, s.inside))) c.option_row.ensures.made_reads;
+    }
 
 pub returns-in-FixedLengthList : goal.returns-in-FixedLengthList
 unfolding row_of_kind
 returns-in-FixedLengthList c = let a = c.args in
     let s = c.requires.0 in
-    let told = c.in-FixedLengthList.is in (
-      rw told c.fixed_row.ensures.rowed_value,
-      rw (one_between a.words.now a.heading.first a.heading.end (rw told at s.references) (omega (arith, rw told at s.references, rw told at s.numbers, s.inside))) c.fixed_row.ensures.made_reads,
-    )
+    let told = c.in-FixedLengthList.is in record {
+      rowed_value = rw told c.fixed_row.ensures.rowed_value;
+      made_reads = rw (one_between a.words.now a.heading.first a.heading.end (rw told at s.references) (omega (arith, rw told at s.references, rw told at s.numbers, s.inside))) c.fixed_row.ensures.made_reads;
+    }

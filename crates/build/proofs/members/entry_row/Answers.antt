@@ -31,14 +31,12 @@ limited-is c = rw (c.within_limits.ensures, c.join.ensures, word_back, c.close.e
 pub overflow_cast-inner : goal.overflow_cast-inner
 overflow_cast-inner c =
     let a = c.args in
-    let e = c.entries-1.given in
-    rw (second_is c) (omega (arith, value_fits (info_means a.key) (info_means a.value) _ _ (sym (ap limited_means e.1) ∙ limited-is c) mem32))
+    rw (second_is c) (omega (arith, value_fits (info_means a.key) (info_means a.value) _ _ (sym (ap limited_means c.in-Within.is) ∙ limited-is c) mem32))
 
 pub overflow_cast-inner-in-Within : goal.overflow_cast-inner-in-Within
 overflow_cast-inner-in-Within c =
     let a = c.args in
-    let e = c.entries-1.given in
-    rw (second_is c) (omega (arith, value_fits (info_means a.key) (info_means a.value) _ _ (sym (ap limited_means e.1) ∙ limited-is c) mem64))
+    rw (second_is c) (omega (arith, value_fits (info_means a.key) (info_means a.value) _ _ (sym (ap limited_means c.in-Within.is) ∙ limited-is c) mem64))
 
 pub returns-in-Refused : goal.returns-in-Refused
 unfolding entry_row fit_row and_then

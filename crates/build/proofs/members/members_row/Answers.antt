@@ -22,10 +22,10 @@ returns-in-BadRef c =
     let a = c.args in
     let look = member_look a.table.now a.index.0 in
     let row = members_row a.kind in
-    let l = c.loop-at in (
-      sym (stop look add_member row a.words.now l.at a.end (members_means l.members) 4 (none_found _ _ _ c.member_at.ensures.result_value c.in-BadRef.is) (omega arith) (omega arith)) ∙ l.invariant.3,
-      tt,
-    )
+    let l = c.loop-at in record {
+      rowed_value = sym (stop look add_member row a.words.now l.at a.end (members_means l.members) 4 (none_found _ _ _ c.member_at.ensures.result_value c.in-BadRef.is) (omega arith) (omega arith)) ∙ l.invariant.3;
+      made_reads = tt;
+    }
 
 pub overflow_add-reads : goal.overflow_add-reads
 overflow_add-reads c =
@@ -36,7 +36,7 @@ overflow_add-reads c =
 
 pub overflow_add-at : goal.overflow_add-at
 overflow_add-at c =
-    omega (arith, c.loop-at.invariant.1, c.loop-at.invariant.2, c.loop-at-test.true, c.before.before.before.before.before.before.before.before.before.before.before.well-formed{-?-})
+    omega (arith, c.loop-at.invariant.1, c.loop-at.invariant.2, c.loop-at-test.true, c.well_formed)
 
 pub loop-at-preserved : goal.loop-at-preserved
 loop-at-preserved c =
@@ -56,7 +56,7 @@ returns c =
     let a = c.args in
     let look = member_look a.table.now a.index.0 in
     let row = members_row a.kind in
-    let l = c.loop-at in (
-      c.row.ensures ∙ sym (over look add_member row a.words.now l.at a.end (members_means l.members) (omega arith)) ∙ l.invariant.3,
-      if_row_holds c.row.result (reads_over a.words.now l.at a.end l.reads _ l.invariant.4 (omega arith)),
-    )
+    let l = c.loop-at in record {
+      rowed_value = c.row.ensures ∙ sym (over look add_member row a.words.now l.at a.end (members_means l.members) (omega arith)) ∙ l.invariant.3;
+      made_reads = if_row_holds c.row.result (reads_over a.words.now l.at a.end l.reads _ l.invariant.4 (omega arith));
+    }

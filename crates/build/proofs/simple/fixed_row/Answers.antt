@@ -20,17 +20,19 @@ use Rattle.build.proofs.simple.fixed_row.Goals as goal
 
 pub returns-in-BadRef : goal.returns-in-BadRef
 unfolding and_then
-returns-in-BadRef c = (simp (← c.member_at.ensures.result_value, c.in-BadRef.is), tt)
+returns-in-BadRef c = record {
+  rowed_value = simp (← c.member_at.ensures.result_value, c.in-BadRef.is);
+  made_reads = tt;
+}
 
 pub returns-in-Info : goal.returns-in-Info
 unfolding fixed_row
-returns-in-Info c = let i = c.element-1.given in
-    let a = c.args in
+returns-in-Info c = let a = c.args in
     let n = get_or a.words.now (a.first + 1) 0 in
-    let ends : extents_means c.repeat.result ≡ both (λ m. extent_at ((info_layout m (info_means i.0.0)).size * n) (info_layout m (info_means i.0.0)).align) = rw c.repeat.ensures in
-    let words : (m : Memory) → words_in m c.repeat-in-Info.result ≡ packed (map_option (copies n) (unpacked (memory_words m (info_flat (info_means i.0.0))))) = λ m. c.repeat-in-Info.ensures m ∙ ap (λ (p : Packed). packed (map_option (copies n) (unpacked (memory_words m p)))) (sym (flat_kept i.0.0)) in (
-      c.fit_row-rowed.ensures
+    let ends : extents_means c.repeat.result ≡ both (λ m. extent_at ((info_layout m (info_means c.in-Info.element)).size * n) (info_layout m (info_means c.in-Info.element)).align) = rw c.repeat.ensures in
+    let words : (m : Memory) → words_in m c.repeat-in-Info.result ≡ packed (map_option (copies n) (unpacked (memory_words m (info_flat (info_means c.in-Info.element))))) = λ m. c.repeat-in-Info.ensures m ∙ ap (λ (p : Packed). packed (map_option (copies n) (unpacked (memory_words m p)))) (sym (flat_kept c.in-Info.element)) in record {
+      rowed_value = c.fit_row-rowed.ensures
           ∙ fit_same {ns = both (λ m. no_inner)} 10 ends (λ j. pair_of (words mem32 j) (words mem64 j)) refl refl
-          ∙ sym (then_is (member_look a.table.now a.index.0 (get_or a.words.now a.first 0)) (info_means i.0.0) (fixed_row n) (sym c.member_at.ensures.result_value ∙ ap looked_means i.1)),
-      if_row_holds c.fit_row-rowed.result (rw i.1 at c.member_at.ensures.looked_reads),
-    )
+          ∙ sym (then_is (member_look a.table.now a.index.0 (get_or a.words.now a.first 0)) (info_means c.in-Info.element) (fixed_row n) (sym c.member_at.ensures.result_value ∙ ap looked_means c.in-Info.is));
+      made_reads = if_row_holds c.fit_row-rowed.result (rw c.in-Info.is at c.member_at.ensures.looked_reads);
+    }

@@ -19,9 +19,8 @@ returns-in-Refused c = simp (← c.flags.ensures, c.in-Refused.is)
 pub returns-in-Info : goal.returns-in-Info
 unfolding flags_row word_reach deeper
 returns-in-Info c =
-    let i = c.abi-1.given in
     let n = c.args.count in
     let words = c.flags-in-Info.ensures in
     c.row_of.ensures
     ∙ (λ j. is (row_words 6 (layouts_means (c.layouts-layouts.ensures j)) (pair_of (words mem32 j) (words mem64 j)) (both (λ m. no_inner)) (deeper no_reach)))
-    ∙ sym (then_is (flags_answer n) (abi_means i.0.0) _ (sym c.flags.ensures ∙ ap info_answer_means i.1))
+    ∙ sym (then_is (flags_answer n) (abi_means c.in-Info.abi) _ (sym c.flags.ensures ∙ ap info_answer_means c.in-Info.is))

@@ -16,11 +16,11 @@ returns c =
     let t = c.args.table.now in
     let b = c.args.bytes.now in
     let local = c.build-built in
-    let rows = c.accepted in (
-      c.built_number.ensures
-          ∙ ap₂ build_number (local.ensures.0 ∙ local_answer ws t b c.requires.0 c.requires.1) (local.ensures.2 ∙ local_reads ws t b c.requires.0 c.requires.1),
-      c.give_rows.ensures
+    let rows = c.accepted in record {
+      value = c.built_number.ensures
+          ∙ ap₂ build_number (local.ensures.0 ∙ local_answer ws t b c.requires.0 c.requires.1) (local.ensures.2 ∙ local_reads ws t b c.requires.0 c.requires.1);
+      bytes_after = c.give_rows.ensures
           ∙ ap (λ (v : List ℕ). put_words 0 v b)
           (ap₂ (λ (u : List ℕ) (n : ℕ). with_rows u n (whole_words b)) local.ensures.1 (rows.ensures ∙ ap accepted local.ensures.0)
-          ∙ local_rows ws t b c.requires.0 c.requires.1),
-    )
+          ∙ local_rows ws t b c.requires.0 c.requires.1);
+    }

@@ -33,7 +33,7 @@ returns c =
     let t = c.args.table.now in
     let words = c.words_of-count in
     let rows = c.build_rows in
-    let all = front_all _ _ 64 (search rules) (search rules) words.ensures.0 words.ensures.1 in (
-      rows.ensures.0 ∙ ap (λ (ws : List ℕ). build_number (build_answer ws (whole_words t)) (build_reads ws (whole_words t))) all,
-      rows.ensures.1 ∙ ap (λ (ws : List ℕ). put_words 0 (table_after ws (whole_words t)) t) all,
-    )
+    let all = front_all _ _ 64 (search rules) (search rules) words.ensures.0 words.ensures.1 in record {
+      value = rows.ensures.0 ∙ ap (λ (ws : List ℕ). build_number (build_answer ws (whole_words t)) (build_reads ws (whole_words t))) all;
+      table_after = rows.ensures.1 ∙ ap (λ (ws : List ℕ). put_words 0 (table_after ws (whole_words t)) t) all;
+    }

@@ -14,7 +14,10 @@ use Rattle.host.proofs.pick.pick_row.Goals as goal
 pub returns-then-reference-lt-FIRST_DEFINITION : goal.returns-then-reference-lt-FIRST_DEFINITION
 returns-then-reference-lt-FIRST_DEFINITION c =
     let a = c.args in
-    ((omega arith, plain_picked (whole_words a.table.now) a.rows a.reference a.picked.now a.slot c.if-reference-lt-FIRST_DEFINITION.true), same_kept a.slot a.picked.now)
+    record {
+      upper_bound = (omega arith, plain_picked (whole_words a.table.now) a.rows a.reference a.picked.now a.slot c.if-reference-lt-FIRST_DEFINITION.true);
+      keeps = same_kept a.slot a.picked.now;
+    }
 
 pub overflow_add-result : goal.overflow_add-result
 overflow_add-result c =
@@ -29,12 +32,15 @@ returns-then-index-rows c =
     let t = whole_words a.table.now in
     let low = c.if-reference-lt-FIRST_DEFINITION.false in
     let high = c.if-index-rows.true in
-    let after = c.take_row.ensures in (
-      (omega arith, ap (λ (q : List ℕ). read_picked q (64 + a.slot)) after ∙ row_picked t a.rows a.reference a.picked.now a.slot p.0 p.1 low high),
-      rw after (others_kept t a.rows a.reference a.picked.now a.slot p.0 p.1 low high),
-    )
+    let after = c.take_row.ensures in record {
+      upper_bound = (omega arith, ap (λ (q : List ℕ). read_picked q (64 + a.slot)) after ∙ row_picked t a.rows a.reference a.picked.now a.slot p.0 p.1 low high);
+      keeps = rw after (others_kept t a.rows a.reference a.picked.now a.slot p.0 p.1 low high);
+    }
 
 pub returns : goal.returns
 returns c =
     let a = c.args in
-    ((omega arith, none_picked (whole_words a.table.now) a.rows a.reference a.picked.now a.slot c.if-reference-lt-FIRST_DEFINITION.false c.if-index-rows.false), same_kept a.slot a.picked.now)
+    record {
+      upper_bound = (omega arith, none_picked (whole_words a.table.now) a.rows a.reference a.picked.now a.slot c.if-reference-lt-FIRST_DEFINITION.false c.if-index-rows.false);
+      keeps = same_kept a.slot a.picked.now;
+    }

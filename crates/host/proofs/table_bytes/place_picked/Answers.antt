@@ -59,7 +59,7 @@ pub returns : goal.returns
 returns c =
     let into = c.place_into in
     let buffer = c.words_of-offset_room in
-    let picks = picking.pick-rows.ensures in
+    let picks = picking.pick_rows.ensures in
     let tested = picking.before.before.before in
     let lent = tested.before.before in
     let a = lent.before.before.before.before.args in

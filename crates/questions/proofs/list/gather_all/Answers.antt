@@ -27,19 +27,17 @@ pub returns-in-Refused : goal.returns-in-Refused
 unfolding then
 returns-in-Refused c = let a = c.args in
     let l = c.loop-k in
-    let w = c.why-1.given in
     let look = read a.table.now a.n in
-    rw (stops look a.references.now (alone (memory_of a.memory)) l.k l.invariant.1.0 (number_of w.0.0) l.invariant.1.1
-    (sym (ap one_means w.1) ∙ c.read_next.ensures) c.loop-k-test.true)
+    rw (stops look a.references.now (alone (memory_of a.memory)) l.k l.invariant.1.0 (number_of c.in-Refused.why) l.invariant.1.1
+    (sym (ap one_means c.in-Refused.is) ∙ c.read_next.ensures) c.loop-k-test.true)
 
 pub loop-k-preserved : goal.loop-k-preserved
 loop-k-preserved c = let a = c.args in
     let l = c.loop-k in
-    let g = c.next-1.given in
     let m = memory_of a.memory in
     let look = read a.table.now a.n in
     let done = l.invariant.1.0 in
-    let r = part_is (alone m) (look (get_or a.references.now l.k 0)) (gathering_means g.0.0) (sym (ap one_means g.1) ∙ c.read_next.ensures) in (
+    let r = part_is (alone m) (look (get_or a.references.now l.k 0)) (gathering_means c.in-One.next) (sym (ap one_means c.in-One.is) ∙ c.read_next.ensures) in (
       search rules,
       (
         done ++ r.0 ∷ [],

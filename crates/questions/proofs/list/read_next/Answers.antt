@@ -18,12 +18,11 @@ use Rattle.questions.proofs.list.read_next.Goals as goal
 pub returns-in-Info : goal.returns-in-Info
 unfolding and_then
 returns-in-Info c = let a = c.args in
-    let i = c.info-1.given in
-    let e : read a.table.now a.n a.reference ≡ is (info_means i.0.0) =
-    read_plain a.table.now a.n a.reference c.if-reference-lt-FIRST_DEFINITION.true ∙ sym c.plain_info.ensures ∙ ap found_means i.1 in
+    let e : read a.table.now a.n a.reference ≡ is (info_means c.in-Info.info) =
+    read_plain a.table.now a.n a.reference c.if-reference-lt-FIRST_DEFINITION.true ∙ sym c.plain_info.ensures ∙ ap found_means c.in-Info.is in
     rw e
     (ap₂ (λ (p : Packed) (b : Bool). is (record { flat = p; borrow = b })) c.in_memory.ensures c.is_borrow.ensures
-    ∙ ap is (read_alone (memory_of a.memory) a.table.now a.n a.reference i.0.0.flat.count (info_means i.0.0) e refl))
+    ∙ ap is (read_alone (memory_of a.memory) a.table.now a.n a.reference c.in-Info.info.flat.count (info_means c.in-Info.info) e refl))
 
 pub returns-in-BadRef : goal.returns-in-BadRef
 unfolding and_then
@@ -34,9 +33,8 @@ pub returns-in-Row : goal.returns-in-Row
 unfolding and_then
 returns-in-Row c = let a = c.args in
     let t = a.table.now in
-    let j = c.index-1.given in
-    let r = row_in t j.0.0.0 in
-    let e : read t a.n a.reference ≡ is (row_info r) = sym c.row_named.ensures ∙ ap (named_means t) j.1 in
+    let r = row_in t c.in-Row.index.0 in
+    let e : read t a.n a.reference ≡ is (row_info r) = sym c.row_named.ensures ∙ ap (named_means t) c.in-Row.is in
     let b = c.is_borrow-in-Row.ensures ∙ ap (λ (x : Reach). (reach_means x).borrow) c.row_reach.ensures in
     rw e
     (ap₂ (λ (p : Packed) (x : Bool). is (record { flat = p; borrow = x })) c.row_flat.ensures b

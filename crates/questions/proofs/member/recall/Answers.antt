@@ -74,6 +74,5 @@ returns-in-Refused c =
     let p = c.requires in
     let m = memory_of a.memory in
     let t = a.table.now in
-    let w = c.why-1.given in
-    let e = gives_none m t a.n a.reference p.0 _ _ (sym (ap layout_answer_means w.1) ∙ c.size_align.ensures) in
-    (sym e, (tt, recalled_none (member_layout m t a.n) a.reference a.memo.now p.3 (number_of w.0.0) e))
+    let e = gives_none m t a.n a.reference p.0 _ _ (sym (ap layout_answer_means c.in-Refused.is) ∙ c.size_align.ensures) in
+    (sym e, (tt, recalled_none (member_layout m t a.n) a.reference a.memo.now p.3 (number_of c.in-Refused.why) e))

@@ -15,24 +15,33 @@ unfolding read_row and_then
 returns-then-good_later_words c =
     let named = c.if-index-n.true in
     let first = sym c.good_first_words.ensures ∙ c.if-good_first_words.true in
-    let later = sym c.good_later_words.ensures ∙ c.if-good_later_words.true in (
-      rw (read_named _ _ _ c.requires.1 c.requires.0 named, good_halves _, first, later, c.row_layout.ensures),
-      ap (λ (x : ℕ). c.args.reads + x) (sym (earlier_read c.args.n (rows_most _ _ c.requires.0) c.args.reference c.requires.1 named)),
-    )
+    let later = sym c.good_later_words.ensures ∙ c.if-good_later_words.true in record {
+      result_value = rw (read_named _ _ _ c.requires.1 c.requires.0 named, good_halves _, first, later, c.row_layout.ensures);
+      member_reads = ap (λ (x : ℕ). c.args.reads + x) (sym (earlier_read c.args.n (rows_most _ _ c.requires.0) c.args.reference c.requires.1 named));
+    }
 
 pub returns-else-good_later_words : goal.returns-else-good_later_words
 unfolding read_row and_then
 returns-else-good_later_words c =
     let first = sym c.good_first_words.ensures ∙ c.if-good_first_words.true in
     let later = sym c.good_later_words.ensures ∙ c.if-good_later_words.false in
-    (rw (read_named _ _ _ c.requires.1 c.requires.0 c.if-index-n.true, good_halves _, first, later), tt)
+    record {
+      result_value = rw (read_named _ _ _ c.requires.1 c.requires.0 c.if-index-n.true, good_halves _, first, later);
+      member_reads = tt;
+    }
 
 pub returns-else-good_first_words : goal.returns-else-good_first_words
 unfolding read_row and_then
 returns-else-good_first_words c =
     let first = sym c.good_first_words.ensures ∙ c.if-good_first_words.false in
-    (rw (read_named _ _ _ c.requires.1 c.requires.0 c.if-index-n.true, good_halves _, first), tt)
+    record {
+      result_value = rw (read_named _ _ _ c.requires.1 c.requires.0 c.if-index-n.true, good_halves _, first);
+      member_reads = tt;
+    }
 
 pub returns : goal.returns
 unfolding and_then
-returns c = (rw (read_past _ _ _ c.requires.1 c.if-index-n.false), tt)
+returns c = record {
+  result_value = rw (read_past _ _ _ c.requires.1 c.if-index-n.false);
+  member_reads = tt;
+}

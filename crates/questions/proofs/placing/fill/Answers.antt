@@ -52,12 +52,14 @@ pub returns-in-Refused : goal.returns-in-Refused
 unfolding then
 returns-in-Refused c = let a = c.args in
     let l = c.loop-k in
-    let w = c.why-1.given in
     let look = read a.table.now a.n in
     let e =
-    stops look a.references.now (info_layout (memory_of a.memory)) l.k l.invariant.2.0 (number_of w.0.0) l.invariant.2.1
-    (sym (ap member_means w.1) ∙ c.read_member.ensures.result_value) c.loop-k-test.true in
-    (record { answer = rw e; reads = rw e; after = rw e }, λ q f. impossible (let g = rw e at f in cc))
+    stops look a.references.now (info_layout (memory_of a.memory)) l.k l.invariant.2.0 (number_of c.in-Refused.why) l.invariant.2.1
+    (sym (ap member_means c.in-Refused.is) ∙ c.read_member.ensures.result_value) c.loop-k-test.true in
+    record {
+      answers = record { answer = rw e; reads = rw e; after = rw e };
+      pairs = λ q f. impossible (let g = rw e at f in cc);
+    }
 
 pub overflow_add-k : goal.overflow_add-k
 overflow_add-k c =
@@ -74,10 +76,9 @@ loop-k-preserved c =
     let look = read a.table.now a.n in
     let w = get_or a.references.now l.k 0 in
     let done = l.invariant.2.0 in
-    let g = c.layout-1.given in
-    let f = layout_means g.0.0 in
+    let f = layout_means c.in-Layout.layout in
     let reading = c.read_member.ensures in
-    let r = part_is (info_layout m) (look w) f (sym (ap member_means g.1) ∙ reading.0) in
+    let r = part_is (info_layout m) (look w) f (sym (ap member_means c.in-Layout.is) ∙ reading.0) in
     let next = c.next-placed in
     let q = next.ensures ∙ ap (λ (x : Layout). next_place l.placed x (record { 0 = l.k })) (sym r.2) in
     let al = read_aligned m a.table.now a.n w r.0 r.1 in (
@@ -90,7 +91,7 @@ loop-k-preserved c =
         rw (layouts_more m done r.0, c.pair.ensures)
             (staged_more l.placed (layouts_in m done) l.k l.invariant.2.2 (info_layout m r.0) al next.result q l.stage l.invariant.2.3 (omega (arith, test, l.invariant.1, p.2))),
       ),
-      omega (arith, l.invariant.3, rw g.1 at reading.1, rows_next a.references.now l.k test),
+      omega (arith, l.invariant.3, rw c.in-Layout.is at reading.1, rows_next a.references.now l.k test),
     )
 
 pub returns : goal.returns
@@ -101,14 +102,14 @@ returns c = let a = c.args in
     let fs = layouts_in (memory_of a.memory) done in
     let e = ends (read a.table.now a.n) a.references.now l.k done l.invariant.2.1 c.loop-k-test.false in
     let f = finish_is l.placed fs l.k l.invariant.2.2 in
-    let all = l.invariant.3 ∙ ap rows_among (take_all l.k a.references.now c.loop-k-test.false) in (
-      record {
+    let all = l.invariant.3 ∙ ap rows_among (take_all l.k a.references.now c.loop-k-test.false) in record {
+      answers = record {
         answer = rw e (c.finish.ensures.0 ∙ f.0);
         reads = rw e (c.finish.ensures.1 ∙ ap₂ (λ (x : Answer Layout) (n : ℕ). reported x n) f.0 all);
         after = rw e (c.finish.ensures.2 ∙ f.1);
-      },
-      λ q g.
+      };
+      pairs = λ q g.
           let b = placed_starts l.placed fs l.k l.invariant.2.2 q (rw e at g) in
           let staged = l.invariant.2.3 b.2 in
-          rw (← le_antisymm l.invariant.0 c.loop-k-test.false) (record { offsets = b.0 ∙ sym staged.0; gaps = b.1 ∙ sym staged.1 }),
-    )
+          rw (← le_antisymm l.invariant.0 c.loop-k-test.false) (record { offsets = b.0 ∙ sym staged.0; gaps = b.1 ∙ sym staged.1 });
+    }

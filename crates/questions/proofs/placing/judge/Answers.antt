@@ -52,12 +52,14 @@ pub returns-in-Refused : goal.returns-in-Refused
 unfolding then
 returns-in-Refused c = let a = c.args in
     let l = c.loop-k in
-    let w = c.why-1.given in
     let look = read a.table.now a.n in
     let e =
-    stops look a.references.now (info_layout (memory_of a.memory)) l.k l.invariant.2.0 (number_of w.0.0) l.invariant.2.1
-    (sym (ap member_means w.1) ∙ c.recall.ensures.result_value) c.loop-k-test.true in
-    (record { answer = rw e; reads = rw e; after = rw e }, λ q f. impossible (let g = rw e at f in cc))
+    stops look a.references.now (info_layout (memory_of a.memory)) l.k l.invariant.2.0 (number_of c.in-Refused.why) l.invariant.2.1
+    (sym (ap member_means c.in-Refused.is) ∙ c.recall.ensures.result_value) c.loop-k-test.true in
+    record {
+      answers = record { answer = rw e; reads = rw e; after = rw e };
+      ready = λ q f. impossible (let g = rw e at f in cc);
+    }
 
 pub overflow_add-k : goal.overflow_add-k
 overflow_add-k c =
@@ -72,10 +74,9 @@ loop-k-preserved c = let a = c.args in
     let look = read a.table.now a.n in
     let w = get_or a.references.now l.k 0 in
     let done = l.invariant.2.0 in
-    let g = c.layout-1.given in
-    let f = layout_means g.0.0 in
+    let f = layout_means c.in-Layout.layout in
     let rc = c.recall in
-    let r = part_is (info_layout m) (look w) f (sym (ap member_means g.1) ∙ rc.ensures.0) in
+    let r = part_is (info_layout m) (look w) f (sym (ap member_means c.in-Layout.is) ∙ rc.ensures.0) in
     let q = c.next-placed.ensures ∙ ap (λ (x : Layout). next_place l.placed x (record { 0 = l.k })) (sym r.2) in
     let al = read_aligned m a.table.now a.n w r.0 r.1 in (
       search rules,
@@ -86,8 +87,8 @@ loop-k-preserved c = let a = c.args in
         rw (layouts_more m done r.0) (stands_more l.placed (layouts_in m done) l.k l.invariant.2.2 (info_layout m r.0) al c.next-placed.result q),
       ),
       rc.ensures.1.1.holds,
-      below_more _ _ (λ j h. rc.ensures.1.1.keeps _ (l.invariant.4 j h)) (rc.ensures.1.1.found f (sym rc.ensures.0 ∙ ap member_means g.1)),
-      omega (arith, l.invariant.5, rw g.1 at rc.ensures.1.0, rows_next a.references.now l.k test),
+      below_more _ _ (λ j h. rc.ensures.1.1.keeps _ (l.invariant.4 j h)) (rc.ensures.1.1.found f (sym rc.ensures.0 ∙ ap member_means c.in-Layout.is)),
+      omega (arith, l.invariant.5, rw c.in-Layout.is at rc.ensures.1.0, rows_next a.references.now l.k test),
     )
 
 pub returns : goal.returns
@@ -101,13 +102,13 @@ returns c = let a = c.args in
     let k = le_antisymm l.invariant.0 c.loop-k-test.false in
     let e = ends (read a.table.now a.n) a.references.now l.k done l.invariant.2.1 c.loop-k-test.false in
     let f = finish_is l.placed fs l.k st in
-    let all = l.invariant.5 ∙ ap rows_among (take_all l.k a.references.now c.loop-k-test.false) in (
-      record {
+    let all = l.invariant.5 ∙ ap rows_among (take_all l.k a.references.now c.loop-k-test.false) in record {
+      answers = record {
         answer = rw e (c.finish.ensures.0 ∙ f.0);
         reads = rw e (c.finish.ensures.1 ∙ ap₂ (λ (x : Answer Layout) (n : ℕ). reported x n) f.0 all);
         after = rw e (c.finish.ensures.2 ∙ f.1);
-      },
-      λ q g.
+      };
+      ready = λ q g.
           let b = placed_starts l.placed fs l.k st q (rw e at g) in
           let there = rw k at l.invariant.4 in
           let same = known_all m a.table.now a.n l.memo l.invariant.3 0 a.references.now done e there in
@@ -115,5 +116,5 @@ returns c = let a = c.args in
             all = record { there = there; aligned = rw same st.aligned; fits = rw same b.2 };
             offsets = rw same b.0;
             gaps = rw same b.1;
-          },
-    )
+          };
+    }

@@ -84,4 +84,7 @@ returns c =
     let k : l.k ≡ length c.args.references.now = le_antisymm l.invariant.0 c.loop-k-test.false in
     let whole : take l.k fs ≡ fs = take_all l.k fs (rw (length-map c.args.references.now _, k) (le_refl (length c.args.references.now))) in
     let staged = (rw whole at l.invariant.4.6) c.requires.4.fits in
-    (rw (← k, ← staged.0) l.invariant.4.4, rw (← k, ← staged.1) l.invariant.4.5)
+    record {
+      out_after = rw (← k, ← staged.0) l.invariant.4.4;
+      gaps_after = rw (← k, ← staged.1) l.invariant.4.5;
+    }

@@ -11,22 +11,22 @@ use Rattle.questions.proofs.two.gather_both.Goals as goal
 pub overflow_add-result : goal.overflow_add-result
 overflow_add-result c =
     let a = c.args in
-    omega (arith, together_below (memory_of a.second-memory) a.table.now a.n a.second.now _ _ (sym (ap gathered_means c.in-Refused-gather_all.is) ∙ c.gather_all-in-All.ensures))
+    omega (arith, together_below (memory_of a.second_memory) a.table.now a.n a.second.now _ _ (sym (ap gathered_means c.in-Refused-gather_all.is) ∙ c.gather_all-in-All.ensures))
 
 pub returns-in-All-gather_all : goal.returns-in-All-gather_all
 unfolding then
 returns-in-All-gather_all c =
     let a = c.args in
-    rw (two_gathered a.table.now a.n (memory_of a.first-memory) (memory_of a.second-memory) a.first.now a.second.now, ← c.gather_all.ensures, c.in-All.is, ← c.gather_all-in-All.ensures, c.in-All-gather_all.is)
+    rw (two_gathered a.table.now a.n (memory_of a.first_memory) (memory_of a.second_memory) a.first.now a.second.now, ← c.gather_all.ensures, c.in-All.is, ← c.gather_all-in-All.ensures, c.in-All-gather_all.is)
 
 pub returns-in-Refused-gather_all : goal.returns-in-Refused-gather_all
 unfolding then
 returns-in-Refused-gather_all c =
     let a = c.args in
-    rw (two_gathered a.table.now a.n (memory_of a.first-memory) (memory_of a.second-memory) a.first.now a.second.now, ← c.gather_all.ensures, c.in-All.is, ← c.gather_all-in-All.ensures, c.in-Refused-gather_all.is)
+    rw (two_gathered a.table.now a.n (memory_of a.first_memory) (memory_of a.second_memory) a.first.now a.second.now, ← c.gather_all.ensures, c.in-All.is, ← c.gather_all-in-All.ensures, c.in-Refused-gather_all.is)
 
 pub returns-in-Refused : goal.returns-in-Refused
 unfolding then
 returns-in-Refused c =
     let a = c.args in
-    rw (two_gathered a.table.now a.n (memory_of a.first-memory) (memory_of a.second-memory) a.first.now a.second.now, ← c.gather_all.ensures, c.in-Refused.is)
+    rw (two_gathered a.table.now a.n (memory_of a.first_memory) (memory_of a.second_memory) a.first.now a.second.now, ← c.gather_all.ensures, c.in-Refused.is)

@@ -22,7 +22,7 @@ whole_word-requires c =
     let a = c.args in
     let l = c.loop-k in
     let p = c.requires in
-    omega (arith, c.place-source.ensures, place_fits a.bytes-room a.from l.k (length a.bytes.now / 4) p.0 (omega arith) p.2)
+    omega (arith, c.place-source.ensures, place_fits a.bytes_room a.from l.k (length a.bytes.now / 4) p.0 (omega arith) p.2)
 
 pub offset_bounds-table-at : goal.offset_bounds-table-at
 offset_bounds-table-at c =
@@ -42,17 +42,17 @@ pub loop-k-preserved : goal.loop-k-preserved
 loop-k-preserved c =
     let a = c.args in
     let l = c.loop-k in
-    let ws = taken a.bytes.now a.bytes-room a.from in
-    let got : c.whole_word.result ≡ get_or ws l.k 0 = unfold cell in rw (c.whole_word.ensures, c.place-source.ensures, cell_of a.bytes-room (whole_words a.bytes.now) a.from l.k (omega arith)) in (
+    let ws = taken a.bytes.now a.bytes_room a.from in
+    let got : c.whole_word.result ≡ get_or ws l.k 0 = unfold cell in rw (c.whole_word.ensures, c.place-source.ensures, cell_of a.bytes_room (whole_words a.bytes.now) a.from l.k (omega arith)) in (
       omega arith,
       simp length-set l.invariant.1,
       rw (c.place-at.ensures, got)
-          (sym (put_step a.room a.to l.k (l.k + 1) ws l.table (omega (arith, length_cells a.bytes-room (whole_words a.bytes.now) a.from 0 16)) (omega arith)) ∙ l.invariant.2),
+          (sym (put_step a.room a.to l.k (l.k + 1) ws l.table (omega (arith, length_cells a.bytes_room (whole_words a.bytes.now) a.from 0 16)) (omega arith)) ∙ l.invariant.2),
     )
 
 pub returns : goal.returns
 returns c =
     let a = c.args in
     let l = c.loop-k in
-    let ws = taken a.bytes.now a.bytes-room a.from in
-    sym (put_none a.room a.to l.k ws l.table (omega (arith, length_cells a.bytes-room (whole_words a.bytes.now) a.from 0 16))) ∙ l.invariant.2
+    let ws = taken a.bytes.now a.bytes_room a.from in
+    sym (put_none a.room a.to l.k ws l.table (omega (arith, length_cells a.bytes_room (whole_words a.bytes.now) a.from 0 16))) ∙ l.invariant.2

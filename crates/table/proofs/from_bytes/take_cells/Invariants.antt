@@ -10,13 +10,10 @@ use Rattle.words.specs.Words.{whole_words}
 use Rattle.table.proofs.Reading.{length_cells}
 use Rattle.table.proofs.from_bytes.take_cells.Given as goal
 
--- ? by hand
-abbrev invariant-loop : tie.invariant-loop
-invariant-loop bytes bytes-room from table₀ room to k₀ table k =
-    (k ≤ 16)
-    × (length table ≡ length table₀)
-    × (put_from room to k (drop k (taken bytes bytes-room from)) table ≡ put_from room to 0 (taken bytes bytes-room from) table₀)
+abbrev pub invariant-loop-k : goal.invariant-loop-k
+invariant-loop-k l = (l.k ≤ 16)
+    × (length l.table ≡ length l.initial.table)
+    × (put_from l.room l.to l.k (drop l.k (taken l.bytes l.bytes_room l.from)) l.table ≡ put_from l.room l.to 0 (taken l.bytes l.bytes_room l.from) l.initial.table)
 
--- ? by hand
-abbrev decreases-loop : tie.decreases-loop
-decreases-loop bytes bytes-room from table₀ room to k₀ table k = 16 - k
+abbrev pub decreases-loop-k : goal.decreases-loop-k
+decreases-loop-k l = 16 - l.k

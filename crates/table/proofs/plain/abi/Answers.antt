@@ -9,38 +9,38 @@ use Rattle.table.proofs.plain.abi.Goals as goal
 
 pub returns-in-0 : goal.returns-in-0
 unfolding layout flat_count
-returns-in-0 c = rw c.in-0.keys1 (as_wide 0 1 (λ m. refl, refl))
+returns-in-0 c = rw c.in-0.is (as_wide 0 1 (λ m. refl, refl))
 
 pub returns-in-1 : goal.returns-in-1
 unfolding layout flat_count
-returns-in-1 c = rw c.in-1.keys2 (as_wide 1 1 (λ m. refl, refl))
+returns-in-1 c = rw c.in-1.is (as_wide 1 1 (λ m. refl, refl))
 
 pub returns-in-2 : goal.returns-in-2
 unfolding layout flat_count
-returns-in-2 c = rw c.in-2.keys3 (as_wide 2 1 (λ m. refl, refl))
+returns-in-2 c = rw c.in-2.is (as_wide 2 1 (λ m. refl, refl))
 
 pub returns-in-3 : goal.returns-in-3
 unfolding layout flat_count
-returns-in-3 c = rw c.in-3.keys4 (as_wide 3 2 (λ m. refl, refl))
+returns-in-3 c = rw c.in-3.is (as_wide 3 2 (λ m. refl, refl))
 
 pub returns-in-4 : goal.returns-in-4
 unfolding layout flat_count
-returns-in-4 c = rw c.in-4.keys5 (as_wide 4 2 (λ m. refl, refl))
+returns-in-4 c = rw c.in-4.is (as_wide 4 2 (λ m. refl, refl))
 
 pub returns-in-7 : goal.returns-in-7
 unfolding layout flat_count
-returns-in-7 c = rw c.in-7.keys6 (as_wide 7 8 (λ m. refl, refl))
+returns-in-7 c = rw c.in-7.is (as_wide 7 8 (λ m. refl, refl))
 
 pub returns-in-8 : goal.returns-in-8
 unfolding layout flat_count
-returns-in-8 c = rw c.in-8.keys7 (as_wide 8 8 (λ m. refl, refl))
+returns-in-8 c = rw c.in-8.is (as_wide 8 8 (λ m. refl, refl))
 
 pub returns-in-10 : goal.returns-in-10
 unfolding layout flat_count
-returns-in-10 c = rw c.in-10.keys8 (as_wide 10 8 (λ m. refl, refl))
+returns-in-10 c = rw c.in-10.is (as_wide 10 8 (λ m. refl, refl))
 
 pub returns-in-12 : goal.returns-in-12
-returns-in-12 c = string_is c.in-12.keys9
+returns-in-12 c = string_is c.in-12.is
 
 pub returns-in_default : goal.returns-in_default
 unfolding armed

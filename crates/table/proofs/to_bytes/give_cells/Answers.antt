@@ -28,7 +28,7 @@ loop-k-preserved c =
       omega arith,
       put.auto.0 ∙ l.invariant.1,
       λ i. (c.slice_known-in-loop-k-1.given i).fits,
-      give_turn a.bytes-room a.row ws l.k (l.k + 1) word.result l.bytes put.new.0 l.invariant.2 (omega arith) (omega arith) (omega arith)
+      give_turn a.bytes_room a.row ws l.k (l.k + 1) word.result l.bytes put.new.0 l.invariant.2 (omega arith) (omega arith) (omega arith)
           (word.ensures ∙ ap (cell a.room a.table.now a.row) (sym (zero-add l.k)) ∙ sym (cells_at a.room a.table.now a.row 0 16 l.k (omega arith)))
           (put.ensures ∙ ap (λ (p : ℕ). put_words 0 (set (whole_words l.bytes) p word.result) l.bytes) at.ensures)
           ∙ l.invariant.3,
@@ -42,4 +42,4 @@ unfolding cells_from
 returns c =
     let a = c.args in
     let l = c.loop-k in
-    sym (give_end a.bytes-room a.row (cells_from a.room a.table.now a.row 0 16) l.k l.bytes l.invariant.2 (omega arith)) ∙ l.invariant.3
+    sym (give_end a.bytes_room a.row (cells_from a.room a.table.now a.row 0 16) l.k l.bytes l.invariant.2 (omega arith)) ∙ l.invariant.3

@@ -10,14 +10,11 @@ use Rattle.table.proofs.Giving.{left_into, give_turn, give_end}
 use Rattle.canon.proofs.Cells.{cells_at}
 use Rattle.table.proofs.to_bytes.give_cells.Given as goal
 
--- ? by hand
-abbrev invariant-loop : tie.invariant-loop
-invariant-loop table room bytes₀ bytes-room row k₀ bytes k =
-    (k ≤ 16)
-    × (length bytes ≡ length bytes₀)
-    × ((i : ℕ) → get_or bytes i 0 < 256)
-    × (left_into bytes-room row (cells_from room table row 0 16) k bytes ≡ left_into bytes-room row (cells_from room table row 0 16) 0 bytes₀)
+abbrev pub invariant-loop-k : goal.invariant-loop-k
+invariant-loop-k l = (l.k ≤ 16)
+    × (length l.bytes ≡ length l.initial.bytes)
+    × ((i : ℕ) → get_or l.bytes i 0 < 256)
+    × (left_into l.bytes_room l.row (cells_from l.room l.table l.row 0 16) l.k l.bytes ≡ left_into l.bytes_room l.row (cells_from l.room l.table l.row 0 16) 0 l.initial.bytes)
 
--- ? by hand
-abbrev decreases-loop : tie.decreases-loop
-decreases-loop table room bytes₀ bytes-room row k₀ bytes k = 16 - k
+abbrev pub decreases-loop-k : goal.decreases-loop-k
+decreases-loop-k l = 16 - l.k
