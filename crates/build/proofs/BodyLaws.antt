@@ -13,7 +13,7 @@ use lib.Seq.{get_or-take, get_or-drop}
 use borrow.Author.Tests.{ltb-true, lt-leb}
 use Rattle.canon.specs.Answer.{Leaf, no, map_option, map_option2, bad_count, and_then}
 use Rattle.canon.specs.Types.{Ty, variant_of, list_of, map_of, flags_of, enum_of, option_of, result_of, fixed_of, Members, Case, Cases, ∎, ◌▸◌, count}
-use Rattle.canon.specs.Types.{Kind, kRecord, kVariant, kList, kTuple, kMap, kFlags, kEnum, kOption, kResult, kFixed}
+use Rattle.canon.specs.Types.{Kind, k_record, k_variant, k_list, k_tuple, k_map, k_flags, k_enum, k_option, k_result, k_fixed}
 use Rattle.canon.specs.Layout.{discriminant, most_flags}
 use Rattle.canon.specs.Row.{info_of, row_kind}
 use Rattle.canon.specs.Description.{
@@ -151,17 +151,17 @@ pub kind_row_lem :
     row_of_kind (type_info ts) ws k n (from + before (shape_of k)) (from + before (shape_of k) + many (shape_of k) n)
     ≡ cond (is_bad_count k n) (no bad_count) (row_leaf (checked len (type_of ts k (take (body_length (shape_of k) n) (drop from ws)))))
 unfolding row_of_kind type_of
-kind_row_lem ts kRecord ws from n len e h = rw (shape_references counted ws from n) (product ts a_record _ 1 len (λ us. refl))
-kind_row_lem ts kVariant ws from n len e h =
+kind_row_lem ts k_record ws from n len e h = rw (shape_references counted ws from n) (product ts a_record _ 1 len (λ us. refl))
+kind_row_lem ts k_variant ws from n len e h =
     rw (← (shape_references counted ws from n))
     (variant ts (between ws (from + 1) (from + 1 + n)) len
     ∙ ap (λ (l : ℕ). cond (eqb l 0) (no bad_count) (row_leaf (checked len (map_option variant_of (cases_of ts (between ws (from + 1) (from + 1 + n))))))) (references_length ws (from + 1) n (omega arith)))
-kind_row_lem ts kList ws from n len e h = rw (first ws from 0) (listed ts _ len)
-kind_row_lem ts kTuple ws from n len e h = rw (shape_references counted ws from n) (product ts a_tuple _ 4 len (λ us. refl))
-kind_row_lem ts kMap ws from n len e h = rw (first ws from 1, second ws from) (mapped ts _ _ len)
-kind_row_lem ts kFlags ws from n len e h = rw (← (first ws from 0), add-zero from, ← e) (flags n len)
-kind_row_lem ts kEnum ws from n len e h = rw (← (first ws from 0), add-zero from, ← e) (enum n len)
-kind_row_lem ts kOption ws from n len e h = rw (first ws from 0) (option ts _ len)
-kind_row_lem ts kResult ws from n len e h =
+kind_row_lem ts k_list ws from n len e h = rw (first ws from 0) (listed ts _ len)
+kind_row_lem ts k_tuple ws from n len e h = rw (shape_references counted ws from n) (product ts a_tuple _ 4 len (λ us. refl))
+kind_row_lem ts k_map ws from n len e h = rw (first ws from 1, second ws from) (mapped ts _ _ len)
+kind_row_lem ts k_flags ws from n len e h = rw (← (first ws from 0), add-zero from, ← e) (flags n len)
+kind_row_lem ts k_enum ws from n len e h = rw (← (first ws from 0), add-zero from, ← e) (enum n len)
+kind_row_lem ts k_option ws from n len e h = rw (first ws from 0) (option ts _ len)
+kind_row_lem ts k_result ws from n len e h =
     rw (shape_references (fixed 2 0) ws from n, two (drop from ws) (omega (arith, length-drop from ws))) (result ts _ _ len)
-kind_row_lem ts kFixed ws from n len e h = rw (first ws from 1, second ws from) (fixed_list ts _ _ len)
+kind_row_lem ts k_fixed ws from n len e h = rw (first ws from 1, second ws from) (fixed_list ts _ _ len)

@@ -8,7 +8,7 @@ use native.Mathlib.Omega.{arith}
 use lib.Dec.{ltb}
 use borrow.Author.Tests.{ltb-false, le-leb}
 use Rattle.canon.specs.Answer.{Leaf, is, no, map_option, and_then}
-use Rattle.canon.specs.Types.{Ty, list_of, map_of, flags_of, fixed_of, kFixed, kind_word}
+use Rattle.canon.specs.Types.{Ty, list_of, map_of, flags_of, fixed_of, k_fixed, kind_word}
 use Rattle.canon.specs.Layout.{Memory, mem32, mem64, Both, both, Layout, starts, last_end, greatest_align, record_size, record_layout, flags_layout, fixed_layout, most_flags, largest_number, layout}
 use Rattle.canon.specs.Layout.{round_up}
 use Rattle.canon.specs.Flat.{copies, flatten, flat_count}
@@ -49,7 +49,7 @@ fixed_words t c = λ i. record { in32 = one mem32 i; in64 = one mem64 i }
 pub fixed_row_lem : (t : Ty) (c n : ℕ) → fixed_row c (info_of t) ≡ row_leaf (checked n (some (fixed_of t c)))
 unfolding fixed_row layout reach
 fixed_row_lem t c n =
-    fit_same {ns = both (λ m. no_inner)} (kind_word kFixed) refl (fixed_words t c) refl refl
+    fit_same {ns = both (λ m. no_inner)} (kind_word k_fixed) refl (fixed_words t c) refl refl
     ∙ fit_row_lem (fixed_of t c) (λ m. fixed_layout (layout m t) c) (reach t) _ n refl (λ m. refl) (λ h. row_words_lem (fixed_of t c))
 
 flags_fits : (n : ℕ) → n ≤ most_flags → (flags_layout n).size ≤ largest_number

@@ -6,7 +6,7 @@ use Rattle.canon.specs.Layout.{Memory, both, within}
 use Rattle.canon.specs.Flat.{copies, flags_flat}
 use Rattle.canon.specs.Row.{no_inner, Info, row_words, info_layout}
 use Rattle.canon.specs.Reach.{no_reach, join_reach, deeper}
-use Rattle.canon.specs.Types.{Kind, kRecord, kVariant, kList, kTuple, kMap, kFlags, kEnum, kOption, kResult, kFixed}
+use Rattle.canon.specs.Types.{Kind, k_record, k_variant, k_list, k_tuple, k_map, k_flags, k_enum, k_option, k_result, k_fixed}
 use Rattle.types.specs.Extents.{start_extent, extent_at, member_of, close_of}
 use Rattle.types.specs.Leaves.{discriminant_answer, flags_answer}
 use Rattle.types.specs.declared.extent.Step.{Step}
@@ -51,16 +51,16 @@ map_row look k v = and_then (look k) (λ a. and_then (look v) (λ b. entry_row a
 
 -- the row of a kind with the count n, whose references stand from `first` to before `end`
 unfoldable pub row_of_kind : (ℕ → Leaf Info) → List ℕ → Kind → ℕ → ℕ → ℕ → Leaf (List ℕ)
-row_of_kind look ws kRecord n first end = fold_refs look add_member (between ws first end) no_members (members_row 1)
-row_of_kind look ws kVariant n first end = variant_row 2 look (between ws first end)
-row_of_kind look ws kList n first end = and_then (look (get_or ws first 0)) list_row
-row_of_kind look ws kTuple n first end = fold_refs look add_member (between ws first end) no_members (members_row 4)
-row_of_kind look ws kMap n first end = map_row look (get_or ws first 0) (get_or ws (first + 1) 0)
-row_of_kind look ws kFlags n first end = flags_row n
-row_of_kind look ws kEnum n first end = enum_row n
-row_of_kind look ws kOption n first end = and_then (look (get_or ws first 0)) option_row
-row_of_kind look ws kResult n first end = variant_row 9 look (between ws first end)
-row_of_kind look ws kFixed n first end = and_then (look (get_or ws first 0)) (fixed_row (get_or ws (first + 1) 0))
+row_of_kind look ws k_record n first end = fold_refs look add_member (between ws first end) no_members (members_row 1)
+row_of_kind look ws k_variant n first end = variant_row 2 look (between ws first end)
+row_of_kind look ws k_list n first end = and_then (look (get_or ws first 0)) list_row
+row_of_kind look ws k_tuple n first end = fold_refs look add_member (between ws first end) no_members (members_row 4)
+row_of_kind look ws k_map n first end = map_row look (get_or ws first 0) (get_or ws (first + 1) 0)
+row_of_kind look ws k_flags n first end = flags_row n
+row_of_kind look ws k_enum n first end = enum_row n
+row_of_kind look ws k_option n first end = and_then (look (get_or ws first 0)) option_row
+row_of_kind look ws k_result n first end = variant_row 9 look (between ws first end)
+row_of_kind look ws k_fixed n first end = and_then (look (get_or ws first 0)) (fixed_row (get_or ws (first + 1) 0))
 
 abbrev pub kind_row : (ℕ → Leaf Info) → List ℕ → Heading → Leaf (List ℕ)
 kind_row look ws h = row_of_kind look ws h.kind h.count h.first h.end

@@ -5,7 +5,7 @@ use mathlib.Core.List.{List, [], ◌∷◌, ◌++◌}
 use Prim.Native.Nat.{ℕ, ◌+◌, ◌∣◌, max}
 use native.Mathlib.Nat.{dvd_refl, dvd-add, one-dvd, dvd-mul_right, dvd-mul_right_of_dvd}
 use lib.Dec.{leb}
-use Rattle.canon.specs.Types.{Scalar, facts, bool, s8, u8, s16, u16, s32, u32, s64, u64, float32, float64, char, own, borrowed, future, stream, errorContext, Ty, scalar, string, record_of, variant_of, list_of, tuple_of, map_of, flags_of, enum_of, option_of, result_of, fixed_of, Members, ∅, ◌◂◌, Case, bare, holding, Cases, ∎, ◌▸◌, count}
+use Rattle.canon.specs.Types.{Scalar, facts, bool, s8, u8, s16, u16, s32, u32, s64, u64, float32, float64, char, own, borrowed, future, stream, error_context, Ty, scalar, string, record_of, variant_of, list_of, tuple_of, map_of, flags_of, enum_of, option_of, result_of, fixed_of, Members, ∅, ◌◂◌, Case, bare, holding, Cases, ∎, ◌▸◌, count}
 use Rattle.canon.specs.Layout.{Memory, mem32, mem64, Layout, square, ptr_size, greatest_align, record_size, discriminant, variant_align, payload_offset, variant_size, groups, grouped, flags_layout, layout, members, payload, payloads, round_up}
 use Rattle.canon.proofs.Rounding.{dvd_round_up, max_alignment, Alignment, by1, by2, by4, by8}
 use Rattle.canon.proofs.Tightest.{Aligned, greatest_align_alignment}
@@ -27,7 +27,7 @@ scalar_alignment own = by4
 scalar_alignment borrowed = by4
 scalar_alignment future = by4
 scalar_alignment stream = by4
-scalar_alignment errorContext = by4
+scalar_alignment error_context = by4
 
 ptr_alignment : (m : Memory) → Alignment (ptr_size m)
 ptr_alignment mem32 = by4

@@ -9,22 +9,22 @@ use native.Mathlib.Omega.{arith}
 use lib.Dec.{eqb}
 use lib.ListN.{get_or, take, drop}
 use Rattle.canon.specs.Answer.{map_option, map_option2}
-use Rattle.canon.specs.Types.{Ty, record_of, variant_of, list_of, tuple_of, map_of, option_of, result_of, fixed_of, Members, ◌◂◌, Case, bare, holding, Cases, ◌▸◌, Kind, kRecord, kVariant, kList, kTuple, kMap, kFlags, kEnum, kOption, kResult, kFixed}
+use Rattle.canon.specs.Types.{Ty, record_of, variant_of, list_of, tuple_of, map_of, option_of, result_of, fixed_of, Members, ◌◂◌, Case, bare, holding, Cases, ◌▸◌, Kind, k_record, k_variant, k_list, k_tuple, k_map, k_flags, k_enum, k_option, k_result, k_fixed}
 use Rattle.canon.specs.Description.{reference, mark, case_of, members_of, cases_of, shape_of, body_length, references_of, type_of}
 use Rattle.canon.specs.Placement.{Every}
 use Rattle.canon.proofs.Tests.{impossible}
 
 pub body_some : (k : Kind) (n : ℕ) → 1 ≤ body_length (shape_of k) n
-body_some kRecord n = omega arith
-body_some kVariant n = omega arith
-body_some kList n = omega arith
-body_some kTuple n = omega arith
-body_some kMap n = omega arith
-body_some kFlags n = omega arith
-body_some kEnum n = omega arith
-body_some kOption n = omega arith
-body_some kResult n = omega arith
-body_some kFixed n = omega arith
+body_some k_record n = omega arith
+body_some k_variant n = omega arith
+body_some k_list n = omega arith
+body_some k_tuple n = omega arith
+body_some k_map n = omega arith
+body_some k_flags n = omega arith
+body_some k_enum n = omega arith
+body_some k_option n = omega arith
+body_some k_result n = omega arith
+body_some k_fixed n = omega arith
 
 -- the word names the same after the types ts as after us
 abbrev pub Alike : List Ty → List Ty → ℕ → Type 0
@@ -61,16 +61,16 @@ module _ (ts us : List Ty) where
 
   pub looked_up : (k : Kind) (b : List ℕ) → Every (Alike ts us) (references_of (shape_of k) b) → type_of ts k b ≡ type_of us k b
   unfolding type_of
-  looked_up kRecord b w = rw (members (drop 1 b) w)
-  looked_up kVariant b w = rw (cases (drop 1 b) w)
-  looked_up kList b w = rw (first 0 b w)
-  looked_up kTuple b w = rw (members (drop 1 b) w)
-  looked_up kMap b w = rw (first 1 b w, second b w)
-  looked_up kFlags b w = refl
-  looked_up kEnum b w = refl
-  looked_up kOption b w = rw (first 0 b w)
-  looked_up kResult b w = rw (case (get_or b 0 0) (first 1 b w), case (get_or b 1 0) (second b w))
-  looked_up kFixed b w = rw (first 0 b w)
+  looked_up k_record b w = rw (members (drop 1 b) w)
+  looked_up k_variant b w = rw (cases (drop 1 b) w)
+  looked_up k_list b w = rw (first 0 b w)
+  looked_up k_tuple b w = rw (members (drop 1 b) w)
+  looked_up k_map b w = rw (first 1 b w, second b w)
+  looked_up k_flags b w = refl
+  looked_up k_enum b w = refl
+  looked_up k_option b w = rw (first 0 b w)
+  looked_up k_result b w = rw (case (get_or b 0 0) (first 1 b w), case (get_or b 1 0) (second b w))
+  looked_up k_fixed b w = rw (first 0 b w)
 
 -- the word is the mark, or a reference that names a type
 abbrev pub NamesOrMark : List Ty → ℕ → Type 0
@@ -122,17 +122,17 @@ module _ (ts : List Ty) where
   -- so every reference of a body that defines a type names one, or is the mark
   pub body_named : (k : Kind) (b : List ℕ) (t : Ty) → type_of ts k b ≡ some t → Every (NamesOrMark ts) (references_of (shape_of k) b)
   unfolding type_of
-  body_named kRecord b t e = let r = made_of record_of (members_of ts (drop 1 b)) t e in members_named (drop 1 b) r.0 r.1
-  body_named kVariant b t e = let r = made_of variant_of (cases_of ts (drop 1 b)) t e in cases_named (drop 1 b) r.0 r.1
-  body_named kList b t e = let r = made_of list_of (reference ts (get_or b 0 0)) t e in one_named b (reference_named _ r.0 r.1)
-  body_named kTuple b t e = let r = made_of tuple_of (members_of ts (drop 1 b)) t e in members_named (drop 1 b) r.0 r.1
-  body_named kMap b t e =
+  body_named k_record b t e = let r = made_of record_of (members_of ts (drop 1 b)) t e in members_named (drop 1 b) r.0 r.1
+  body_named k_variant b t e = let r = made_of variant_of (cases_of ts (drop 1 b)) t e in cases_named (drop 1 b) r.0 r.1
+  body_named k_list b t e = let r = made_of list_of (reference ts (get_or b 0 0)) t e in one_named b (reference_named _ r.0 r.1)
+  body_named k_tuple b t e = let r = made_of tuple_of (members_of ts (drop 1 b)) t e in members_named (drop 1 b) r.0 r.1
+  body_named k_map b t e =
       let r = made_of_two map_of (reference ts (get_or b 0 0)) (reference ts (get_or b 1 0)) t e in
       pair_named b (reference_named _ r.0 r.2) (reference_named _ r.1 r.3)
-  body_named kFlags b t e = tt
-  body_named kEnum b t e = tt
-  body_named kOption b t e = let r = made_of option_of (reference ts (get_or b 0 0)) t e in one_named b (reference_named _ r.0 r.1)
-  body_named kResult b t e =
+  body_named k_flags b t e = tt
+  body_named k_enum b t e = tt
+  body_named k_option b t e = let r = made_of option_of (reference ts (get_or b 0 0)) t e in one_named b (reference_named _ r.0 r.1)
+  body_named k_result b t e =
       let r = made_of_two result_of (case_of ts (get_or b 0 0)) (case_of ts (get_or b 1 0)) t e in
       pair_named b (r.0, r.2) (r.1, r.3)
-  body_named kFixed b t e = let r = made_of (λ u. fixed_of u (get_or b 1 0)) (reference ts (get_or b 0 0)) t e in one_named b (reference_named _ r.0 r.1)
+  body_named k_fixed b t e = let r = made_of (λ u. fixed_of u (get_or b 1 0)) (reference ts (get_or b 0 0)) t e in one_named b (reference_named _ r.0 r.1)

@@ -9,7 +9,7 @@ use lib.Dec.{leb, ltb}
 use lib.ListN.{length, get_or, take, drop, get_elem?, length-map, length-append}
 use borrow.Author.Tests.{ltb-true, ltb-false}
 use Rattle.canon.specs.Answer.{Leaf, is, no as refuses, map_option, map_option2, bad_ref, too_large, too_deep}
-use Rattle.canon.specs.Types.{Ty, record_of, variant_of, list_of, tuple_of, map_of, flags_of, enum_of, option_of, result_of, fixed_of, plain, Kind, kRecord, kVariant, kList, kTuple, kMap, kFlags, kEnum, kOption, kResult, kFixed}
+use Rattle.canon.specs.Types.{Ty, record_of, variant_of, list_of, tuple_of, map_of, flags_of, enum_of, option_of, result_of, fixed_of, plain, Kind, k_record, k_variant, k_list, k_tuple, k_map, k_flags, k_enum, k_option, k_result, k_fixed}
 use Rattle.canon.specs.Layout.{mem32, mem64}
 use Rattle.canon.specs.Reach.{reach, depth, deepest, is_too_deep}
 use Rattle.canon.specs.Row.{Info, row_of}
@@ -39,16 +39,16 @@ lifted2 f (some a) q t d e = lifted (f a) q t (d a) e
 
 type_of_definition : (ts : List Ty) (k : Kind) (b : List ℕ) (t : Ty) → type_of ts k b ≡ some t → Definition t
 unfolding type_of
-type_of_definition ts kRecord b t e = lifted record_of (members_of ts (drop 1 b)) t (λ a. omega arith) e
-type_of_definition ts kVariant b t e = lifted variant_of (cases_of ts (drop 1 b)) t (λ a. omega arith) e
-type_of_definition ts kList b t e = lifted list_of (reference ts (get_or b 0 0)) t (λ a. omega arith) e
-type_of_definition ts kTuple b t e = lifted tuple_of (members_of ts (drop 1 b)) t (λ a. omega arith) e
-type_of_definition ts kMap b t e = lifted2 map_of (reference ts (get_or b 0 0)) (reference ts (get_or b 1 0)) t (λ a c. omega arith) e
-type_of_definition ts kFlags b t e = let p : flags_of (get_or b 0 0) ≡ t = cc in rw (← p) (omega arith)
-type_of_definition ts kEnum b t e = let p : enum_of (get_or b 0 0) ≡ t = cc in rw (← p) (omega arith)
-type_of_definition ts kOption b t e = lifted option_of (reference ts (get_or b 0 0)) t (λ a. omega arith) e
-type_of_definition ts kResult b t e = lifted2 result_of (case_of ts (get_or b 0 0)) (case_of ts (get_or b 1 0)) t (λ a c. omega arith) e
-type_of_definition ts kFixed b t e = lifted (λ a. fixed_of a (get_or b 1 0)) (reference ts (get_or b 0 0)) t (λ a. omega arith) e
+type_of_definition ts k_record b t e = lifted record_of (members_of ts (drop 1 b)) t (λ a. omega arith) e
+type_of_definition ts k_variant b t e = lifted variant_of (cases_of ts (drop 1 b)) t (λ a. omega arith) e
+type_of_definition ts k_list b t e = lifted list_of (reference ts (get_or b 0 0)) t (λ a. omega arith) e
+type_of_definition ts k_tuple b t e = lifted tuple_of (members_of ts (drop 1 b)) t (λ a. omega arith) e
+type_of_definition ts k_map b t e = lifted2 map_of (reference ts (get_or b 0 0)) (reference ts (get_or b 1 0)) t (λ a c. omega arith) e
+type_of_definition ts k_flags b t e = let p : flags_of (get_or b 0 0) ≡ t = cc in rw (← p) (omega arith)
+type_of_definition ts k_enum b t e = let p : enum_of (get_or b 0 0) ≡ t = cc in rw (← p) (omega arith)
+type_of_definition ts k_option b t e = lifted option_of (reference ts (get_or b 0 0)) t (λ a. omega arith) e
+type_of_definition ts k_result b t e = lifted2 result_of (case_of ts (get_or b 0 0)) (case_of ts (get_or b 1 0)) t (λ a c. omega arith) e
+type_of_definition ts k_fixed b t e = lifted (λ a. fixed_of a (get_or b 1 0)) (reference ts (get_or b 0 0)) t (λ a. omega arith) e
 
 -- what is defined behind a test passed it
 passed_test : (b : Bool) (x : ℕ) (l : Leaf Defined) (d : Defined) → cond b (refuses x) l ≡ is d → (b ≡ false) × (l ≡ is d)

@@ -6,7 +6,7 @@ use mathlib.Core.List.{List, [], ◌++◌, append-nil}
 use mathlib.Core.Option.{Option}
 use Prim.Native.Nat.{ℕ, zero, suc}
 use lib.Dec.{eqb}
-use Rattle.canon.specs.Types.{Ty, scalar, string, record_of, variant_of, list_of, tuple_of, map_of, flags_of, enum_of, option_of, result_of, fixed_of, Members, ∅, ◌◂◌, Case, bare, holding, Cases, ∎, ◌▸◌, count, Core, kMap, kind_word}
+use Rattle.canon.specs.Types.{Ty, scalar, string, record_of, variant_of, list_of, tuple_of, map_of, flags_of, enum_of, option_of, result_of, fixed_of, Members, ∅, ◌◂◌, Case, bare, holding, Cases, ∎, ◌▸◌, count, Core, k_map, kind_word}
 use Rattle.canon.specs.Layout.{Memory, Layout, layout, payload, payloads, variant_layout}
 use Rattle.canon.specs.Flat.{flatten, payload_flat, payload_flats, variant_flat, flat_count, payload_count, payload_counts, variant_count}
 use Rattle.canon.specs.Reach.{Reach, no_reach, join_reach, deeper, reach, payload_reach, case_reach}
@@ -114,7 +114,7 @@ unfolding case_reach
 result_reach ok err = ap (join_reach (payload_reach ok)) (join_no_reach (payload_reach err))
 
 -- a map's list of entries is a definition deeper than the map
-pub same_reach : (t : Ty) → reach (despecialize t) ≡ cond (eqb (row_kind t) (kind_word kMap)) (deeper (reach t)) (reach t)
+pub same_reach : (t : Ty) → reach (despecialize t) ≡ cond (eqb (row_kind t) (kind_word k_map)) (deeper (reach t)) (reach t)
 unfolding despecialize reach
 same_reach (scalar s) = refl
 same_reach string = refl

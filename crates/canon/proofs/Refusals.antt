@@ -13,7 +13,7 @@ use lib.Dec.{ltb}
 use lib.ListN.{length, get_or, take, drop}
 use borrow.Author.Tests.{ltb-true, ltb-false, lt-ltb, le-ltb}
 use Rattle.canon.specs.Answer.{Leaf, is, no as refuses, Answer, ok, refused, map_option, truncated, bad_kind, bad_ref, bad_count, too_large, too_deep}
-use Rattle.canon.specs.Types.{Ty, record_of, tuple_of, Members, Kind, kRecord, kTuple}
+use Rattle.canon.specs.Types.{Ty, record_of, tuple_of, Members, Kind, k_record, k_tuple}
 use Rattle.canon.specs.Layout.{Memory, mem32, mem64, Layout, largest_number, end_after, starts, ends, last_end, record_size, record_layout, layout, members, round_up}
 use Rattle.canon.specs.Reach.{depth, deepest, is_too_deep}
 use Rattle.canon.specs.Description.{kind_of, shape_of, body_length, is_bad_count, members_of, type_of, is_too_large, Defined, checked, bodied, define}
@@ -146,8 +146,8 @@ members_large m t us e = (
 
 -- a kind that is laid out as a record, with the type that it spells
 pub data Product : Kind → (Members → Ty) → Type 0 where
-  a_record : Product kRecord record_of
-  a_tuple : Product kTuple tuple_of
+  a_record : Product k_record record_of
+  a_tuple : Product k_tuple tuple_of
 
 product_size : {k : Kind} {type : Members → Ty} → Product k type → (m : Memory) (us : Members) → is_too_large m (type us) ≡ ltb largest_number (record_size (members m us))
 unfolding layout

@@ -2,7 +2,7 @@
 use Rattle.std.specs.Prelude.{Bool, false, cond, ◌||◌, ◌&&◌, List, [], ◌∷◌, ◌++◌, map, ℕ, zero, suc, ◌+◌, ◌-◌, leb, ltb, eqb, length, get_or, take, drop}
 use Rattle.std.proofs.Math.Option.{Option, none, some}
 use Rattle.std.proofs.Math.ListN.{get_elem?}
-use Rattle.canon.specs.Types.{Ty, record_of, variant_of, list_of, tuple_of, map_of, flags_of, enum_of, option_of, result_of, fixed_of, plain, Members, ∅, ◌◂◌, Case, bare, holding, Cases, ∎, ◌▸◌, Kind, kRecord, kVariant, kList, kTuple, kMap, kFlags, kEnum, kOption, kResult, kFixed, kind_word}
+use Rattle.canon.specs.Types.{Ty, record_of, variant_of, list_of, tuple_of, map_of, flags_of, enum_of, option_of, result_of, fixed_of, plain, Members, ∅, ◌◂◌, Case, bare, holding, Cases, ∎, ◌▸◌, Kind, k_record, k_variant, k_list, k_tuple, k_map, k_flags, k_enum, k_option, k_result, k_fixed, kind_word}
 use Rattle.canon.specs.Layout.{Memory, mem32, mem64, most_flags, largest_number, numbers}
 use Rattle.canon.specs.Reach.{is_too_deep, reach}
 use Rattle.canon.specs.Row.{row_of}
@@ -39,7 +39,7 @@ kind_among [] w = none
 kind_among (k ∷ ks) w = cond (eqb w (kind_word k)) (some k) (kind_among ks w)
 
 unfoldable pub kind_of : ℕ → Option Kind
-kind_of w = kind_among (kRecord ∷ kVariant ∷ kList ∷ kTuple ∷ kMap ∷ kFlags ∷ kEnum ∷ kOption ∷ kResult ∷ kFixed ∷ []) w
+kind_of w = kind_among (k_record ∷ k_variant ∷ k_list ∷ k_tuple ∷ k_map ∷ k_flags ∷ k_enum ∷ k_option ∷ k_result ∷ k_fixed ∷ []) w
 
 -- what follows a kind word: a count n, then n references; or so many references, then so many numbers
 pub data Shape : Type 0 where
@@ -48,16 +48,16 @@ pub data Shape : Type 0 where
 
 -- 01: "n, n references", "one reference", "key, value", "n", "ok, err", "reference, count"
 abbrev pub shape_of : Kind → Shape
-shape_of kRecord = counted
-shape_of kVariant = counted
-shape_of kList = fixed 1 0
-shape_of kTuple = counted
-shape_of kMap = fixed 2 0
-shape_of kFlags = fixed 0 1
-shape_of kEnum = fixed 0 1
-shape_of kOption = fixed 1 0
-shape_of kResult = fixed 2 0
-shape_of kFixed = fixed 1 1
+shape_of k_record = counted
+shape_of k_variant = counted
+shape_of k_list = fixed 1 0
+shape_of k_tuple = counted
+shape_of k_map = fixed 2 0
+shape_of k_flags = fixed 0 1
+shape_of k_enum = fixed 0 1
+shape_of k_option = fixed 1 0
+shape_of k_result = fixed 2 0
+shape_of k_fixed = fixed 1 1
 
 -- how many words a body has, where the first of them is n
 abbrev pub body_length : Shape → ℕ → ℕ
@@ -74,20 +74,20 @@ is_kind j k = eqb (kind_word j) (kind_word k)
 
 -- refusal 5: "variant or enum with n = 0, flags above 512"
 abbrev pub is_bad_count : Kind → ℕ → Bool
-is_bad_count k n = cond (is_kind kFlags k) (ltb most_flags n) ((is_kind kVariant k || is_kind kEnum k) && eqb n 0)
+is_bad_count k n = cond (is_kind k_flags k) (ltb most_flags n) ((is_kind k_variant k || is_kind k_enum k) && eqb n 0)
 
 -- the type that the body b defines after the definitions ts; none for a bad reference
 unfoldable pub type_of : List Ty → Kind → List ℕ → Option Ty
-type_of ts kRecord b = map_option record_of (members_of ts (drop 1 b))
-type_of ts kVariant b = map_option variant_of (cases_of ts (drop 1 b))
-type_of ts kList b = map_option list_of (reference ts (get_or b 0 0))
-type_of ts kTuple b = map_option tuple_of (members_of ts (drop 1 b))
-type_of ts kMap b = map_option2 map_of (reference ts (get_or b 0 0)) (reference ts (get_or b 1 0))
-type_of ts kFlags b = some (flags_of (get_or b 0 0))
-type_of ts kEnum b = some (enum_of (get_or b 0 0))
-type_of ts kOption b = map_option option_of (reference ts (get_or b 0 0))
-type_of ts kResult b = map_option2 result_of (case_of ts (get_or b 0 0)) (case_of ts (get_or b 1 0))
-type_of ts kFixed b = map_option (λ t. fixed_of t (get_or b 1 0)) (reference ts (get_or b 0 0))
+type_of ts k_record b = map_option record_of (members_of ts (drop 1 b))
+type_of ts k_variant b = map_option variant_of (cases_of ts (drop 1 b))
+type_of ts k_list b = map_option list_of (reference ts (get_or b 0 0))
+type_of ts k_tuple b = map_option tuple_of (members_of ts (drop 1 b))
+type_of ts k_map b = map_option2 map_of (reference ts (get_or b 0 0)) (reference ts (get_or b 1 0))
+type_of ts k_flags b = some (flags_of (get_or b 0 0))
+type_of ts k_enum b = some (enum_of (get_or b 0 0))
+type_of ts k_option b = map_option option_of (reference ts (get_or b 0 0))
+type_of ts k_result b = map_option2 result_of (case_of ts (get_or b 0 0)) (case_of ts (get_or b 1 0))
+type_of ts k_fixed b = map_option (λ t. fixed_of t (get_or b 1 0)) (reference ts (get_or b 0 0))
 
 abbrev pub some_above : ℕ → List ℕ → Bool
 some_above n [] = false

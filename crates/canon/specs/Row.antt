@@ -2,7 +2,7 @@
 use Rattle.std.specs.Prelude.{Bool, true, cond, ◌||◌, ◌&&◌, List, [], ◌∷◌, ◌++◌, ℕ, ◌/◌, ◌%◌, ◌^◌, leb, eqb, get_or}
 use Rattle.std.proofs.Math.Option
 use Rattle.std.proofs.Math.Option.{Option, none, some}
-use Rattle.canon.specs.Types.{Ty, scalar, string, record_of, variant_of, list_of, tuple_of, map_of, flags_of, enum_of, option_of, result_of, fixed_of, Core, count, kRecord, kVariant, kList, kTuple, kMap, kFlags, kEnum, kOption, kResult, kFixed, kind_word}
+use Rattle.canon.specs.Types.{Ty, scalar, string, record_of, variant_of, list_of, tuple_of, map_of, flags_of, enum_of, option_of, result_of, fixed_of, Core, count, k_record, k_variant, k_list, k_tuple, k_map, k_flags, k_enum, k_option, k_result, k_fixed, kind_word}
 use Rattle.canon.specs.Layout.{Memory, Both, both, within, Layout, layout, payload, payloads, starts, record_layout, discriminant, payload_offset}
 use Rattle.canon.specs.Flat.{flatten, flat_count}
 use Rattle.canon.specs.Reach.{Reach, reach, reach_word, word_reach, good_reach}
@@ -13,16 +13,16 @@ use Rattle.canon.specs.Answer.{map_option}
 abbrev pub row_kind : Ty → ℕ
 row_kind (scalar s) = 0
 row_kind string = 0
-row_kind (record_of ts) = kind_word kRecord
-row_kind (variant_of cs) = kind_word kVariant
-row_kind (list_of t) = kind_word kList
-row_kind (tuple_of ts) = kind_word kTuple
-row_kind (map_of k v) = kind_word kMap
-row_kind (flags_of n) = kind_word kFlags
-row_kind (enum_of n) = kind_word kEnum
-row_kind (option_of t) = kind_word kOption
-row_kind (result_of ok err) = kind_word kResult
-row_kind (fixed_of t n) = kind_word kFixed
+row_kind (record_of ts) = kind_word k_record
+row_kind (variant_of cs) = kind_word k_variant
+row_kind (list_of t) = kind_word k_list
+row_kind (tuple_of ts) = kind_word k_tuple
+row_kind (map_of k v) = kind_word k_map
+row_kind (flags_of n) = kind_word k_flags
+row_kind (enum_of n) = kind_word k_enum
+row_kind (option_of t) = kind_word k_option
+row_kind (result_of ok err) = kind_word k_result
+row_kind (fixed_of t n) = kind_word k_fixed
 
 -- word 5: "flat count, 255 for none"
 abbrev pub count_word : Option ℕ → ℕ

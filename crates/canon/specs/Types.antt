@@ -7,7 +7,7 @@ pub data Core : Type 0 where
 
 -- references 0 to 11 and 13 to 17: one number each
 pub data Scalar : Type 0 where
-  bool s8 u8 s16 u16 s32 u32 s64 u64 float32 float64 char own borrowed future stream errorContext : Scalar
+  bool s8 u8 s16 u16 s32 u32 s64 u64 float32 float64 char own borrowed future stream error_context : Scalar
 
 -- of a scalar: its size, which is its alignment too, its core type, and whether it is a Borrow
 pub record Facts : Type 0 where
@@ -37,7 +37,7 @@ facts own = fact 4 I32
 facts borrowed = record { size = 4; core = I32; borrow = true }
 facts future = fact 4 I32
 facts stream = fact 4 I32
-facts errorContext = fact 4 I32
+facts error_context = fact 4 I32
 
 mutual
   pub data Ty : Type 0 where
@@ -79,11 +79,11 @@ abbrev pub plain : List Ty
 plain =
     map scalar (bool ∷ s8 ∷ u8 ∷ s16 ∷ u16 ∷ s32 ∷ u32 ∷ s64 ∷ u64 ∷ float32 ∷ float64 ∷ char ∷ [])
     ++ string
-    ∷ map scalar (own ∷ borrowed ∷ future ∷ stream ∷ errorContext ∷ [])
+    ∷ map scalar (own ∷ borrowed ∷ future ∷ stream ∷ error_context ∷ [])
 
 -- the kinds of definition, and 01's word of each
 pub data Kind : Type 0 where
-  kRecord kVariant kList kTuple kMap kFlags kEnum kOption kResult kFixed : Kind
+  k_record k_variant k_list k_tuple k_map k_flags k_enum k_option k_result k_fixed : Kind
 
 abbrev pub kind_word : Kind → ℕ
-kind_word = elim [ kRecord ↦ 1 | kVariant ↦ 2 | kList ↦ 3 | kTuple ↦ 4 | kMap ↦ 5 | kFlags ↦ 6 | kEnum ↦ 7 | kOption ↦ 8 | kResult ↦ 9 | kFixed ↦ 10 ]
+kind_word = elim [ k_record ↦ 1 | k_variant ↦ 2 | k_list ↦ 3 | k_tuple ↦ 4 | k_map ↦ 5 | k_flags ↦ 6 | k_enum ↦ 7 | k_option ↦ 8 | k_result ↦ 9 | k_fixed ↦ 10 ]

@@ -48,7 +48,7 @@ head_spans ws at h e = go (headed ws at h e)
     go g =
         let s = shape_of h.kind in
         let n = get_or ws (at + 1) 0 in
-        rw (← g.is-heading)
+        rw (← g.is_heading)
         ((omega (arith, body_some h.kind n), record { references = refl; numbers = omega (arith, body_parts s n); inside = omega (arith, g.there, body_some h.kind n) }))
 
 pub between_length : (ws : List ℕ) (first end : ℕ) → end ≤ length ws → length (between ws first end) ≡ end - first
@@ -75,4 +75,4 @@ pub head_references :
     (ws : List ℕ) (at : ℕ) (h : Heading) → head_at ws at ≡ is h →
     between ws h.first h.end ≡ references_of (shape_of h.kind) (take (body_length (shape_of h.kind) h.count) (drop (at + 1) ws))
 head_references ws at h e =
-    rw (← (headed ws at h e).is-heading) (shape_references (shape_of h.kind) ws (at + 1) (get_or ws (at + 1) 0))
+    rw (← (headed ws at h e).is_heading) (shape_references (shape_of h.kind) ws (at + 1) (get_or ws (at + 1) 0))

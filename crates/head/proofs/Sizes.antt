@@ -9,23 +9,23 @@ use Rattle.canon.specs.Types.{kind_word}
 use Rattle.canon.specs.Description.{Shape, counted, fixed, shape_of, body_length}
 use Rattle.canon.proofs.Bodies.{body_some}
 use Rattle.head.specs.Heads.{before, many, behind}
-use Rattle.canon.specs.Types.{Kind, kRecord, kVariant, kList, kTuple, kMap, kFlags, kEnum, kOption, kResult, kFixed}
+use Rattle.canon.specs.Types.{Kind, k_record, k_variant, k_list, k_tuple, k_map, k_flags, k_enum, k_option, k_result, k_fixed}
 
 -- of one kind after the other
 pub each_kind :
     (P : Kind → Type 0) →
-    P kRecord → P kVariant → P kList → P kTuple → P kMap → P kFlags → P kEnum → P kOption → P kResult → P kFixed →
+    P k_record → P k_variant → P k_list → P k_tuple → P k_map → P k_flags → P k_enum → P k_option → P k_result → P k_fixed →
     (k : Kind) → P k
-each_kind P a b c d e f g h i j kRecord = a
-each_kind P a b c d e f g h i j kVariant = b
-each_kind P a b c d e f g h i j kList = c
-each_kind P a b c d e f g h i j kTuple = d
-each_kind P a b c d e f g h i j kMap = e
-each_kind P a b c d e f g h i j kFlags = f
-each_kind P a b c d e f g h i j kEnum = g
-each_kind P a b c d e f g h i j kOption = h
-each_kind P a b c d e f g h i j kResult = i
-each_kind P a b c d e f g h i j kFixed = j
+each_kind P a b c d e f g h i j k_record = a
+each_kind P a b c d e f g h i j k_variant = b
+each_kind P a b c d e f g h i j k_list = c
+each_kind P a b c d e f g h i j k_tuple = d
+each_kind P a b c d e f g h i j k_map = e
+each_kind P a b c d e f g h i j k_flags = f
+each_kind P a b c d e f g h i j k_enum = g
+each_kind P a b c d e f g h i j k_option = h
+each_kind P a b c d e f g h i j k_result = i
+each_kind P a b c d e f g h i j k_fixed = j
 
 pub word_small : (k : Kind) → kind_word k ≤ 10
 word_small =

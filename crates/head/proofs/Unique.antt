@@ -18,16 +18,16 @@ use Rattle.head.proofs.kind_word.Reads as kind-word
 use Rattle.head.proofs.read_head.Reads as read_head
 
 abbrev kind_back : trees.Kind → Kind
-kind_back trees.kRecord = kind.Record
-kind_back trees.kVariant = kind.Variant
-kind_back trees.kList = kind.List
-kind_back trees.kTuple = kind.Tuple
-kind_back trees.kMap = kind.Map
-kind_back trees.kFlags = kind.Flags
-kind_back trees.kEnum = kind.Enum
-kind_back trees.kOption = kind.Option
-kind_back trees.kResult = kind.Result
-kind_back trees.kFixed = kind.FixedLengthList
+kind_back trees.k_record = kind.Record
+kind_back trees.k_variant = kind.Variant
+kind_back trees.k_list = kind.List
+kind_back trees.k_tuple = kind.Tuple
+kind_back trees.k_map = kind.Map
+kind_back trees.k_flags = kind.Flags
+kind_back trees.k_enum = kind.Enum
+kind_back trees.k_option = kind.Option
+kind_back trees.k_result = kind.Result
+kind_back trees.k_fixed = kind.FixedLengthList
 
 kind_back_lem : (k : Kind) → kind_back (kind_means k) ≡ k
 kind_back_lem kind.Record = refl

@@ -13,16 +13,16 @@ use Rattle.head.specs.declared.Head.{Head}
 use Rattle.head.specs.declared.Head.TheVariants as head
 
 abbrev pub kind_means : Kind → trees.Kind
-kind_means kind.Record = trees.kRecord
-kind_means kind.Variant = trees.kVariant
-kind_means kind.List = trees.kList
-kind_means kind.Tuple = trees.kTuple
-kind_means kind.Map = trees.kMap
-kind_means kind.Flags = trees.kFlags
-kind_means kind.Enum = trees.kEnum
-kind_means kind.Option = trees.kOption
-kind_means kind.Result = trees.kResult
-kind_means kind.FixedLengthList = trees.kFixed
+kind_means kind.Record = trees.k_record
+kind_means kind.Variant = trees.k_variant
+kind_means kind.List = trees.k_list
+kind_means kind.Tuple = trees.k_tuple
+kind_means kind.Map = trees.k_map
+kind_means kind.Flags = trees.k_flags
+kind_means kind.Enum = trees.k_enum
+kind_means kind.Option = trees.k_option
+kind_means kind.Result = trees.k_result
+kind_means kind.FixedLengthList = trees.k_fixed
 
 abbrev pub kinded_means : Kinded → Option trees.Kind
 kinded_means (kinded.Kind k) = some (kind_means k)

@@ -5,7 +5,7 @@ use Rattle.canon.specs.Layout.{Memory, Layout, starts, last_end, largest_number}
 use Rattle.canon.specs.Row.{Info, flat_of, info_layout}
 use Rattle.canon.specs.Question.{read, infos, layouts_in, buffer_after}
 use Rattle.canon.specs.Cost.{rows_among, reported}
-use Rattle.canon.specs.Gaps as canonGaps
+use Rattle.canon.specs.Gaps as canon_gaps
 use Rattle.canon.specs.Gaps.{Padded, padded, offsets_of, gaps_of}
 use Rattle.canon.proofs.Tightest.{Aligned}
 use Rattle.canon.specs.Placement.{four_gib}
@@ -122,4 +122,4 @@ pub record AllKnown (memo ws : List ℕ) : Type 0 where
 pub record Ready (memo ws : List ℕ) (q : Padded) : Type 0 where
   pub all : AllKnown memo ws
   pub offsets : offsets_of q ≡ starts 0 (known memo ws)
-  pub gaps : gaps_of q ≡ canonGaps.gaps 0 (known memo ws)
+  pub gaps : gaps_of q ≡ canon_gaps.gaps 0 (known memo ws)

@@ -5,7 +5,7 @@ ghost use Rattle.canon.specs.Answer.{ok};
 ghost use Rattle.canon.specs.Layout.{starts};
 ghost use Rattle.canon.specs.Question.{no_table, placement_answer, offsets_after};
 ghost use Rattle.canon.specs.Cost.{placement_reads};
-ghost use Rattle.canon.specs.Gaps as canonGaps;
+ghost use Rattle.canon.specs.Gaps as canon_gaps;
 ghost use Rattle.canon.specs.Gaps.{Padded, room_of, gaps_after, after_answer};
 ghost use Rattle.types.specs.Means.{memory_of};
 ghost use Rattle.questions.specs.Means.{placement_means, whole_reads, after_means, halves};
@@ -114,7 +114,7 @@ fn judge(
 fn write(references: &[u32], memo: &[u64], out: &mut [u32], gaps: &mut [u32])
     requires { (length references.now ≤ 16384) × (length memo.now ≡ 1088) × (length references.now ≤ length out.old) × (length references.now ≤ length gaps.old) × AllKnown memo.now references.now }
     ensures out_after { out.new ≡ starts 0 (known memo.now references.now) ++ drop (length references.now) out.old }
-    ensures gaps_after { gaps.new ≡ canonGaps.gaps 0 (known memo.now references.now) ++ drop (length references.now) gaps.old }
+    ensures gaps_after { gaps.new ≡ canon_gaps.gaps 0 (known memo.now references.now) ++ drop (length references.now) gaps.old }
 {
     let mut placed = Placed::NONE;
     let mut k: usize = 0;

@@ -1,4 +1,5 @@
 -- One arm for each kind; any other word is none of the ten.
+use native.Mathlib.Omega.{arith}
 use borrow.Author.Tests.{ne_eqb}
 use Rattle.canon.specs.Description.{kind_of}
 use Rattle.head.proofs.kind_of.Goals as goal
@@ -45,4 +46,17 @@ returns-in-10 c = rw c.in-10.is
 
 pub returns-in_default : goal.returns-in_default
 unfolding kind_of
-returns-in_default c = simp (ne_eqb _ _ c.in_default.rest.0.0.0.0.0.0.0.0.0.1, ne_eqb _ _ c.in_default.rest.0.0.0.0.0.0.0.0.1, ne_eqb _ _ c.in_default.rest.0.0.0.0.0.0.0.1, ne_eqb _ _ c.in_default.rest.0.0.0.0.0.0.1, ne_eqb _ _ c.in_default.rest.0.0.0.0.0.1, ne_eqb _ _ c.in_default.rest.0.0.0.0.1, ne_eqb _ _ c.in_default.rest.0.0.0.1, ne_eqb _ _ c.in_default.rest.0.0.1, ne_eqb _ _ c.in_default.rest.0.1, ne_eqb _ _ c.in_default.rest.1)
+returns-in_default c =
+    let w = c.args.word in
+    simp (
+      ne_eqb w 1 (omega arith),
+      ne_eqb w 2 (omega arith),
+      ne_eqb w 3 (omega arith),
+      ne_eqb w 4 (omega arith),
+      ne_eqb w 5 (omega arith),
+      ne_eqb w 6 (omega arith),
+      ne_eqb w 7 (omega arith),
+      ne_eqb w 8 (omega arith),
+      ne_eqb w 9 (omega arith),
+      ne_eqb w 10 (omega arith),
+    )

@@ -1,6 +1,7 @@
 -- Each arm by its number; of more than eight types there is room for one copy.
-use Prim.Native.Nat.{◌<◌, zero-le}
-use Rattle.flat_types.proofs.Copying.{one_copy, above}
+use Prim.Native.Nat.{◌<◌}
+use native.Mathlib.Omega.{arith}
+use Rattle.flat_types.proofs.Copying.{one_copy}
 use Rattle.flat_types.proofs.repeat.every.Goals as goal
 
 pub returns-in-0 : goal.returns-in-0
@@ -32,9 +33,5 @@ returns-in-8 c = rw c.in-8.is
 
 pub returns-in_default : goal.returns-in_default
 returns-in_default c =
-    let r = c.in_default.rest in
-    let past : 8 < c.args.count
-    = above (above (above (above (above (above (above (above (above zero-le
-    r.0.0.0.0.0.0.0.0.1) r.0.0.0.0.0.0.0.1) r.0.0.0.0.0.0.1) r.0.0.0.0.0.1) r.0.0.0.0.1)
-    r.0.0.0.1) r.0.0.1) r.0.1) r.1 in
+    let past : 8 < c.args.count = omega arith in
     one_copy c.args.count c.requires past

@@ -2,7 +2,7 @@
 use mathlib.Core.Path.{refl, ◌∙◌}
 use lib.ListN.{length, length-map}
 use Rattle.canon.specs.Layout.{starts}
-use Rattle.canon.specs.Gaps as canonGaps
+use Rattle.canon.specs.Gaps as canon_gaps
 use Rattle.canon.specs.Gaps.{offsets_of, gaps_of}
 use Rattle.canon.proofs.Questions.{starts_length}
 use Rattle.canon.proofs.Gaps.{gaps_length}
@@ -36,7 +36,7 @@ returns-in-Whole c =
     record {
       answers = answers;
       offsets = written offsets_of _ p.0 (starts 0 fs) _ _ (length refs) p.1 ready.offsets (starts_length 0 fs ∙ length-map refs _) written-by.0;
-      gaps = written gaps_of _ p.0 (canonGaps.gaps 0 fs) _ _ (length refs) p.1 ready.gaps (gaps_length 0 fs ∙ length-map refs _) written-by.1;
+      gaps = written gaps_of _ p.0 (canon_gaps.gaps 0 fs) _ _ (length refs) p.1 ready.gaps (gaps_length 0 fs ∙ length-map refs _) written-by.1;
     }
 
 pub returns-in-Refused : goal.returns-in-Refused

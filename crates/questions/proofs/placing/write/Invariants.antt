@@ -7,7 +7,7 @@ use native.Mathlib.Omega.{arith}
 use lib.ListN.{length, get_or, take, drop, length-set, length-append, length-map}
 use lib.Seq.{take_all}
 use Rattle.canon.specs.Layout.{Layout, starts}
-use Rattle.canon.specs.Gaps as canonGaps
+use Rattle.canon.specs.Gaps as canon_gaps
 use Rattle.questions.specs.Steps.{memo_layout, known, next_place}
 use Rattle.questions.proofs.Members.{Stands, Staged, nothing_stands, stands_more, staged_last}
 use Rattle.questions.proofs.Memos.{known_more, known_aligned, there_below, write_turn}

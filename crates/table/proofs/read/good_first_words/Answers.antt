@@ -8,8 +8,8 @@ use Rattle.table.specs.Rows.{good_first_words}
 use borrow.Author.Rules.{rules}
 use Rattle.table.proofs.read.good_first_words.Goals as goal
 
-abbrev goodLayouts : Both Layout → Bool
-goodLayouts b = good_layout b.in32 && good_layout b.in64
+abbrev good_layouts : Both Layout → Bool
+good_layouts b = good_layout b.in32 && good_layout b.in64
 
 pub returns-then-kind-lt1 : goal.returns-then-kind-lt1
 unfolding good_first_words
@@ -26,6 +26,6 @@ returns c =
       ← c.word-kind.ensures,
       le-leb _ _ c.if-kind-lt1.false,
       le-leb _ _ c.if-kind-gt10.false,
-      ← ap goodLayouts c.row_layouts.ensures,
+      ← ap good_layouts c.row_layouts.ensures,
     )
     c.is_good.ensures

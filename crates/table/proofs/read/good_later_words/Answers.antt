@@ -10,14 +10,14 @@ use Rattle.table.specs.Rows.{good_later_words}
 use borrow.Author.Rules.{rules}
 use Rattle.table.proofs.read.good_later_words.Goals as goal
 
-abbrev goodTypes : Option ℕ → Both ℕ → Bool
-goodTypes c b = good_count c && (unused_zero c b.in32 && unused_zero c b.in64)
+abbrev good_types : Option ℕ → Both ℕ → Bool
+good_types c b = good_count c && (unused_zero c b.in32 && unused_zero c b.in64)
 
 pub returns-then-is_good : goal.returns-then-is_good
 unfolding good_later_words good_flat
 returns-then-is_good c =
     rw (
-      ← ap₂ goodTypes (ap count_of c.row_types.ensures.count) c.row_types.ensures.flats,
+      ← ap₂ good_types (ap count_of c.row_types.ensures.count) c.row_types.ensures.flats,
       ← c.is_good.ensures,
       c.if-is_good.true,
     )
@@ -27,7 +27,7 @@ pub returns : goal.returns
 unfolding good_later_words good_flat
 returns c =
     rw (
-      ← ap₂ goodTypes (ap count_of c.row_types.ensures.count) c.row_types.ensures.flats,
+      ← ap₂ good_types (ap count_of c.row_types.ensures.count) c.row_types.ensures.flats,
       ← c.is_good.ensures,
       c.if-is_good.false,
     )
