@@ -4,6 +4,7 @@ use mathlib.Core.Path.{◌≡◌, refl, sym, ap, ◌∙◌}
 use mathlib.Core.List.{List}
 use Prim.Native.Nat.{ℕ}
 use contract.Lifetimes.{Lfts}
+use denote.Bor.{Bor}
 use denote.Ref.{MutBor, at_last}
 use Rattle.canon.specs.Row as canon
 use Rattle.canon.specs.Row.{count_word}
@@ -106,7 +107,7 @@ plain_info_one w r q g h = same_found r q (g ∙ sym h)
 pub plain_info_by_shifts_one : (w : ℕ) (r q : Found) → plain-info-by-shifts.Post tt (w, tt) r (w, tt) → plain-info-by-shifts.Post tt (w, tt) q (w, tt) → r ≡ q
 plain_info_by_shifts_one w r q g h = same_found r q (g ∙ sym h)
 
-module _ (κs : Lfts 1) (t : MutBor (List ℕ)) (j : DefinitionIndex) where
+module _ (κs : Lfts 1) (t : Bor (List ℕ)) (j : DefinitionIndex) where
   pub row_info_one : (r q : Info) → row-info.Post κs (t, (j, tt)) r (t, (j, tt)) → row-info.Post κs (t, (j, tt)) q (t, (j, tt)) → r ≡ q
   row_info_one r q g h = same_info r q (g ∙ sym h)
 
@@ -133,22 +134,22 @@ module _ (κs : Lfts 1) (t : MutBor (List ℕ)) (j : DefinitionIndex) where
       (m : Memory) (r q : FlatList) → row-flat.Post κs (t, (j, (m, tt))) r (t, (j, (m, tt))) → row-flat.Post κs (t, (j, (m, tt))) q (t, (j, (m, tt))) → r ≡ q
   row_flat_one m r q g h = told words (λ p. record { count = p.number; types = p.types }) (λ p. refl) r q (g ∙ sym h)
 
-  pub put_row_one :
-      (row : Row) (l k : List ℕ) →
-      put-row.Post κs (t, (j, (row, tt))) tt (at_last t l, (j, (row, tt))) →
-      put-row.Post κs (t, (j, (row, tt))) tt (at_last t k, (j, (row, tt))) →
-      l ≡ k
-  put_row_one row l k g h = g ∙ sym h
+pub put_row_one :
+    (κs : Lfts 1) (t : MutBor (List ℕ)) (j : DefinitionIndex) (row : Row) (l k : List ℕ) →
+    put-row.Post κs (t, (j, (row, tt))) tt (at_last t l, (j, (row, tt))) →
+    put-row.Post κs (t, (j, (row, tt))) tt (at_last t k, (j, (row, tt))) →
+    l ≡ k
+put_row_one κs t j row l k g h = g ∙ sym h
 
 pub give_row_one :
-    (κs : Lfts 2) (t : MutBor (List ℕ)) (j : DefinitionIndex) (b : MutBor (List ℕ)) (l k : List ℕ) →
+    (κs : Lfts 2) (t : Bor (List ℕ)) (j : DefinitionIndex) (b : MutBor (List ℕ)) (l k : List ℕ) →
     give-row.Post κs (t, (j, (b, tt))) tt (t, (j, (at_last b l, tt))) →
     give-row.Post κs (t, (j, (b, tt))) tt (t, (j, (at_last b k, tt))) →
     l ≡ k
 give_row_one κs t j b l k g h = g ∙ sym h
 
 pub take_row_one :
-    (κs : Lfts 2) (b : MutBor (List ℕ)) (i : DefinitionIndex) (t : MutBor (List ℕ)) (j : DefinitionIndex) (l k : List ℕ) →
+    (κs : Lfts 2) (b : Bor (List ℕ)) (i : DefinitionIndex) (t : MutBor (List ℕ)) (j : DefinitionIndex) (l k : List ℕ) →
     take_row.Post κs (b, (i, (t, (j, tt)))) tt (b, (i, (at_last t l, (j, tt)))) →
     take_row.Post κs (b, (i, (t, (j, tt)))) tt (b, (i, (at_last t k, (j, tt)))) →
     l ≡ k

@@ -29,10 +29,10 @@ loop-k-preserved c =
       omega arith,
       simp length-set l.invariant.1,
       rw c.place-at.ensures
-          (sym (put_step a.room a.row l.k (l.k + 1) a.t4 l.table (omega arith) (omega arith)) ∙ l.invariant.2),
+          (sym (put_step a.room a.row l.k (l.k + 1) a.words l.table (omega arith) (omega arith)) ∙ l.invariant.2),
     )
 
 pub returns : goal.returns
 returns c =
     let a = c.args in
-    sym (put_none a.room a.row c.loop-k.k a.t4 c.loop-k.table (omega arith)) ∙ c.loop-k.invariant.2
+    sym (put_none a.room a.row c.loop-k.k a.words c.loop-k.table (omega arith)) ∙ c.loop-k.invariant.2

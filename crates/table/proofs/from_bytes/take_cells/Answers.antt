@@ -8,11 +8,8 @@ use Rattle.canon.specs.Table.{cell, cells_from, put_from}
 use Rattle.canon.proofs.Cells.{place_fits, put_step, put_none, cell_of}
 use Rattle.words.specs.Words.{whole_words}
 use Rattle.table.proofs.Reading.{length_cells}
+use Rattle.table.proofs.from_bytes.take_cells.Invariants.{taken}
 use Rattle.table.proofs.from_bytes.take_cells.Goals as goal
-
--- the cells that are taken
-abbrev taken : List ℕ → ℕ → ℕ → List ℕ
-taken bytes bytes-room from = cells_from bytes-room (whole_words bytes) from 0 16
 
 pub loop-k-init : goal.loop-k-init
 loop-k-init c = (omega arith, refl, refl)

@@ -10,6 +10,10 @@ use Rattle.words.specs.Words.{whole_words}
 use Rattle.table.proofs.Reading.{length_cells}
 use Rattle.table.proofs.from_bytes.take_cells.Given as goal
 
+-- the cells that are taken
+abbrev pub taken : List ℕ → ℕ → ℕ → List ℕ
+taken bytes bytes_room from = cells_from bytes_room (whole_words bytes) from 0 16
+
 abbrev pub invariant-loop-k : goal.invariant-loop-k
 invariant-loop-k l = (l.k ≤ 16)
     × (length l.table ≡ length l.initial.table)

@@ -1,6 +1,7 @@
 -- Each arm's constant has the type's numbers in both memories (`as_wide`, `string_is`); the other scalars have four bytes.
 use mathlib.Core.Path.{◌≡◌, refl}
 use mathlib.Core.Bool.{false}
+use native.Mathlib.Omega.{arith}
 use borrow.Author.Tests.{ne_eqb}
 use Rattle.canon.specs.Flat.{flat_count}
 use Rattle.canon.specs.Layout.{layout}
@@ -46,17 +47,16 @@ pub returns-in_default : goal.returns-in_default
 unfolding armed
 returns-in_default c =
     let k = c.args.reference in
-    let r = c.in_default.rest in
     let e : armed k ≡ false =
     rw (
-      ne_eqb k 0 r.0.0.0.0.0.0.0.0.1,
-      ne_eqb k 1 r.0.0.0.0.0.0.0.1,
-      ne_eqb k 2 r.0.0.0.0.0.0.1,
-      ne_eqb k 3 r.0.0.0.0.0.1,
-      ne_eqb k 4 r.0.0.0.0.1,
-      ne_eqb k 7 r.0.0.0.1,
-      ne_eqb k 8 r.0.0.1,
-      ne_eqb k 10 r.0.1,
-      ne_eqb k 12 r.1,
+      ne_eqb k 0 (omega arith),
+      ne_eqb k 1 (omega arith),
+      ne_eqb k 2 (omega arith),
+      ne_eqb k 3 (omega arith),
+      ne_eqb k 4 (omega arith),
+      ne_eqb k 7 (omega arith),
+      ne_eqb k 8 (omega arith),
+      ne_eqb k 10 (omega arith),
+      ne_eqb k 12 (omega arith),
     ) in
     as_wide k 4 (rest_is_four k c.requires e)

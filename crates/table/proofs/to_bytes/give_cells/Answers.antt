@@ -26,16 +26,13 @@ loop-k-preserved c =
     let put = c.put_word_at in
     let ws = cells_from a.room a.table.now a.row 0 16 in (
       omega arith,
-      put.auto.0 ∙ l.invariant.1,
-      λ i. (c.slice_known-in-loop-k-1.given i).fits,
-      give_turn a.bytes_room a.row ws l.k (l.k + 1) word.result l.bytes put.new.0 l.invariant.2 (omega arith) (omega arith) (omega arith)
+      put.auto.bytes ∙ l.invariant.1,
+      λ i. (c.type_inv.bytes i).fits,
+      give_turn a.bytes_room a.row ws l.k (l.k + 1) word.result l.bytes put.new.bytes l.invariant.2 (omega arith) (omega arith) (omega arith)
           (word.ensures ∙ ap (cell a.room a.table.now a.row) (sym (zero-add l.k)) ∙ sym (cells_at a.room a.table.now a.row 0 16 l.k (omega arith)))
           (put.ensures ∙ ap (λ (p : ℕ). put_words 0 (set (whole_words l.bytes) p word.result) l.bytes) at.ensures)
           ∙ l.invariant.3,
     )
-
-pub shape_of-bytes : goal.shape_of-bytes
-shape_of-bytes c = c.loop-k.invariant.1
 
 pub returns : goal.returns
 unfolding cells_from
