@@ -78,7 +78,7 @@ loop-k-preserved c =
     let done = l.invariant.2.0 in
     let f = layout_means c.in-Layout.layout in
     let reading = c.read_member.ensures in
-    let r = part_is (info_layout m) (look w) f (sym (ap member_means c.in-Layout.is) ∙ reading.0) in
+    let r = part_is (info_layout m) (look w) f (sym (ap member_means c.in-Layout.is) ∙ reading.result_value) in
     let next = c.next-placed in
     let q = next.ensures ∙ ap (λ (x : Layout). next_place l.placed x (record { 0 = l.k })) (sym r.2) in
     let al = read_aligned m a.table.now a.n w r.0 r.1 in (
@@ -91,7 +91,7 @@ loop-k-preserved c =
         rw (layouts_more m done r.0, c.pair.ensures)
             (staged_more l.placed (layouts_in m done) l.k l.invariant.2.2 (info_layout m r.0) al next.result q l.stage l.invariant.2.3 (omega (arith, test, l.invariant.1, p.2))),
       ),
-      omega (arith, l.invariant.3, rw c.in-Layout.is at reading.1, rows_next a.references.now l.k test),
+      omega (arith, l.invariant.3, rw c.in-Layout.is at reading.member_reads, rows_next a.references.now l.k test),
     )
 
 pub returns : goal.returns

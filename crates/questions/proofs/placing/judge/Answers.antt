@@ -76,7 +76,7 @@ loop-k-preserved c = let a = c.args in
     let done = l.invariant.2.0 in
     let f = layout_means c.in-Layout.layout in
     let rc = c.recall in
-    let r = part_is (info_layout m) (look w) f (sym (ap member_means c.in-Layout.is) ∙ rc.ensures.0) in
+    let r = part_is (info_layout m) (look w) f (sym (ap member_means c.in-Layout.is) ∙ rc.ensures.result_value) in
     let q = c.next-placed.ensures ∙ ap (λ (x : Layout). next_place l.placed x (record { 0 = l.k })) (sym r.2) in
     let al = read_aligned m a.table.now a.n w r.0 r.1 in (
       search rules,
@@ -86,9 +86,9 @@ loop-k-preserved c = let a = c.args in
         goes_on look a.references.now l.k done r.0 l.invariant.2.1 r.1 test,
         rw (layouts_more m done r.0) (stands_more l.placed (layouts_in m done) l.k l.invariant.2.2 (info_layout m r.0) al c.next-placed.result q),
       ),
-      rc.ensures.1.1.holds,
-      below_more _ _ (λ j h. rc.ensures.1.1.keeps _ (l.invariant.4 j h)) (rc.ensures.1.1.found f (sym rc.ensures.0 ∙ ap member_means c.in-Layout.is)),
-      omega (arith, l.invariant.5, rw c.in-Layout.is at rc.ensures.1.0, rows_next a.references.now l.k test),
+      rc.ensures.recalled.holds,
+      below_more _ _ (λ j h. rc.ensures.recalled.keeps _ (l.invariant.4 j h)) (rc.ensures.recalled.found f (sym rc.ensures.result_value ∙ ap member_means c.in-Layout.is)),
+      omega (arith, l.invariant.5, rw c.in-Layout.is at rc.ensures.member_reads, rows_next a.references.now l.k test),
     )
 
 pub returns : goal.returns

@@ -18,9 +18,6 @@ pub loop-k-init : goal.loop-k-init
 unfolding starts canon_gaps.gaps
 loop-k-init c = (search rules, refl, refl, nothing_stands, ([], [], refl, refl, refl, refl, λ h. (refl, refl)))
 
-pub overflow_cast-word : goal.overflow_cast-word
-overflow_cast-word c = omega (arith, c.shared_slice_known-in-loop-k-1.given c.loop-k.k)
-
 pub offset_bounds-memo-references : goal.offset_bounds-memo-references
 offset_bounds-memo-references c = let l = c.loop-k in
     let g = there_below c.args.memo.now (get_or c.args.references.now l.k 0) (c.requires.4.there l.k c.loop-k-test.true) in
