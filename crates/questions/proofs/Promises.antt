@@ -83,7 +83,7 @@ module _
     module _ (w : Whole) (promise : placement.Post κs (m, (t, (n, (ws, (o, (g, tt)))))) (answer.Whole w) (m, (t, (n, (ws, (at_last o l, (at_last g k, tt))))))) where
       offsets : (os : List ℕ) × (placing (memory_of m) t.now n ws.now room ≡ ok (record { layout = layout_means w.layout; offsets = os })) × (l ≡ os ++ drop (length os) o.now)
       unfolding placement_answer offsets_after
-      offsets = answered (placing (memory_of m) t.now n ws.now room) (layout_means w.layout) o.now l promise.result_value promise.out_after
+      offsets = answered (placing (memory_of m) t.now n ws.now room) (layout_means w.layout) o.now l promise.0 promise.1.0
 
       pub placement_tightest : (os : List ℕ) × (l ≡ os ++ drop (length os) o.now) × Tightest fs (record { layout = layout_means w.layout; offsets = os })
       placement_tightest = (offsets.0, offsets.2, placing_tightest (memory_of m) (record { layout = layout_means w.layout; offsets = offsets.0 }) reads offsets.1)
@@ -100,8 +100,8 @@ module _
       placement_gaps =
           let q = padded_so in
           let e = q.1 ∙ ap (λ (x : Padded). ok x) q.2 in
-          let after = promise.result_value_3 ∙ ap (λ (a : Answer Padded). then a (λ p. ok p.after)) e in
-          (promise.gaps_after ∙ ap (λ (a : Answer Padded). buffer_after gaps_of a g.now) e, cc)
+          let after = promise.1.1.1.1 ∙ ap (λ (a : Answer Padded). then a (λ p. ok p.after)) e in
+          (promise.1.1.1.0 ∙ ap (λ (a : Answer Padded). buffer_after gaps_of a g.now) e, cc)
 
       -- the placement is canon's own
       canons : ◌≡◌ {A = Placing} (record { layout = record_layout fs; offsets = starts 0 fs }) (record { layout = layout_means w.layout; offsets = offsets.0 })
@@ -138,9 +138,9 @@ module _
     unfolding placement_answer then
     placement_six r h =
         let six = placing_six (memory_of m) reads in (
-          λ e. six.0 (e.0.0, then_refused (λ (p : Placing). p.layout) (placing (memory_of m) t.now n ws.now room) too_large e.0.0 (sym h.result_value ∙ ap placement_means e.1)),
+          λ e. six.0 (e.0.0, then_refused (λ (p : Placing). p.layout) (placing (memory_of m) t.now n ws.now room) too_large e.0.0 (sym h.0 ∙ ap placement_means e.1)),
           λ none. let e = six.1 none in
-              (record { 0 = e.0 }, refusal_told r TooLarge (record { 0 = e.0 }) (h.result_value ∙ rw e.1)),
+              (record { 0 = e.0 }, refusal_told r TooLarge (record { 0 = e.0 }) (h.0 ∙ rw e.1)),
         )
 
 -- Tables that a build wrote, of a description ws into a buffer t₀
@@ -197,10 +197,10 @@ module _ (m : Memory) (t : Bor (List ℕ)) (n : ℕ) (refs : Bor (List ℕ)) (ws
     unfolding placement_answer offsets_after after_answer
     placed_of κs o g r l k fits h =
         record {
-          whole = h.result_value ∙ rw (placing_of_lem (room_of o.now g.now) fits);
-          offsets = h.out_after ∙ rw (placing_of_lem (room_of o.now g.now) fits);
-          gaps = h.gaps_after ∙ rw (padding_of (room_of o.now g.now) fits);
-          after = h.result_value_3 ∙ rw (padding_of (room_of o.now g.now) fits);
+          whole = h.0 ∙ rw (placing_of_lem (room_of o.now g.now) fits);
+          offsets = h.1.0 ∙ rw (placing_of_lem (room_of o.now g.now) fits);
+          gaps = h.1.1.1.0 ∙ rw (padding_of (room_of o.now g.now) fits);
+          after = h.1.1.1.1 ∙ rw (padding_of (room_of o.now g.now) fits);
         }
 
 -- One list of references placed in both memories, over a table that a build wrote, both with room for offsets and gaps or neither
@@ -227,20 +227,20 @@ module _
         (u : Whole) × (r ≡ answer.Whole u) × (layout_means u.layout ≼ layout_means v.layout) × NoneLater (take (length refs.now) l) (take (length refs.now) l')
     unfolding placement_answer offsets_after then
     narrow_accepts w e =
-        let b = answered (placing mem64 t.now n refs.now wide_room) (layout_means w.layout) o'.now l' (sym (ap placement_means e) ∙ wide.result_value) wide.out_after in
+        let b = answered (placing mem64 t.now n refs.now wide_room) (layout_means w.layout) o'.now l' (sym (ap placement_means e) ∙ wide.0) wide.1.0 in
         let p = beside_accepted beside b.1 in
-        let whole = whole_told r p.0.layout (narrow.result_value ∙ ap layout_only p.1) in
-        let u : take (length refs.now) l ≡ p.0.offsets = ap (take (length refs.now)) narrow.out_after ∙ offsets_written mem32 t.now n refs.now narrow_room o.now p.0 p.1 in
-        let v : take (length refs.now) l' ≡ b.0 = ap (take (length refs.now)) wide.out_after ∙ offsets_written mem64 t.now n refs.now wide_room o'.now _ b.1 in
+        let whole = whole_told r p.0.layout (narrow.0 ∙ ap layout_only p.1) in
+        let u : take (length refs.now) l ≡ p.0.offsets = ap (take (length refs.now)) narrow.1.0 ∙ offsets_written mem32 t.now n refs.now narrow_room o.now p.0 p.1 in
+        let v : take (length refs.now) l' ≡ b.0 = ap (take (length refs.now)) wide.1.0 ∙ offsets_written mem64 t.now n refs.now wide_room o'.now _ b.1 in
         (whole.0, whole.1, rw whole.2 p.2, rw (u, v) p.3)
 
     -- what 32 refuses, 64 refuses with the same number
     pub wide_refuses : (x : Refusal) (p : MemberPosition) → r ≡ answer.Refused x p → (q : MemberPosition) × (r' ≡ answer.Refused x q)
     unfolding placement_answer then
     wide_refuses x p e =
-        let a = then_refused (λ (p : Placing). p.layout) (placing mem32 t.now n refs.now narrow_room) (number_of x) p.0 (sym narrow.result_value ∙ ap placement_means e) in
+        let a = then_refused (λ (p : Placing). p.layout) (placing mem32 t.now n refs.now narrow_room) (number_of x) p.0 (sym narrow.0 ∙ ap placement_means e) in
         let j = beside_refused beside a in
-        (record { 0 = j.0 }, refusal_told r' x (record { 0 = j.0 }) (wide.result_value ∙ ap layout_only j.1))
+        (record { 0 = j.0 }, refusal_told r' x (record { 0 = j.0 }) (wide.0 ∙ ap layout_only j.1))
 
 -- 02, order 6: "Placement reports likewise for its references"
 
@@ -251,19 +251,19 @@ module _
     -- accepted, it reports how many of the references are of the form 64+j
     pub placement_reads_are : (f : canon.Layout) → placement_means r ≡ ok f → whole_reads r ≡ rows_among refs.now
     unfolding placement_reads
-    placement_reads_are f e = promise.result_value_2 ∙ ap (λ (a : Answer canon.Layout). reported a (rows_among refs.now)) (sym promise.result_value ∙ e)
+    placement_reads_are f e = promise.1.1.0 ∙ ap (λ (a : Answer canon.Layout). reported a (rows_among refs.now)) (sym promise.0 ∙ e)
 
     -- accepted, a reference is of this form exactly when it names one of the rows
     pub placement_reads_named : (f : canon.Layout) → placement_means r ≡ ok f → Every (λ v. is_row v ≡ is_earlier n v) refs.now
     unfolding placement_answer
     placement_reads_named f e =
-        let p = answered (placing (memory_of m) t.now n refs.now (room_of o.now g.now)) f o.now _ (sym e ∙ promise.result_value) refl in
+        let p = answered (placing (memory_of m) t.now n refs.now (room_of o.now g.now)) f o.now _ (sym e ∙ promise.0) refl in
         let s = placing_starts (memory_of m) t.now n refs.now (room_of o.now g.now) _ p.1 in
         infos_row t.now n s.1.table 0 refs.now s.0 s.1.gives
 
     -- accepted or not, never more than the references
     pub placement_reads_within : whole_reads r ≤ length refs.now
-    placement_reads_within = rw promise.result_value_2 (placement_within (memory_of m) t.now n refs.now (room_of o.now g.now))
+    placement_reads_within = rw promise.1.1.0 (placement_within (memory_of m) t.now n refs.now (room_of o.now g.now))
 
 -- Two lists in one memory, one the other with references appended, over any table
 
@@ -279,8 +279,8 @@ module _
     offsets_kept =
         let few = room_of o.now g.now in
         let more = room_of o'.now g'.now in
-        let a = answered (placing (memory_of m) t.now n refs.now few) (layout_means u.layout) o.now l fewer.result_value fewer.out_after in
-        let b = answered (placing (memory_of m) t.now n refs'.now more) (layout_means v.layout) o'.now l' all.result_value all.out_after in
+        let a = answered (placing (memory_of m) t.now n refs.now few) (layout_means u.layout) o.now l fewer.0 fewer.1.0 in
+        let b = answered (placing (memory_of m) t.now n refs'.now more) (layout_means v.layout) o'.now l' all.0 all.1.0 in
         let c = offsets_begin (memory_of m) t.now n refs.now vs few more _ _ a.1 (sym (ap (λ (x : List ℕ). placing (memory_of m) t.now n x more) appended) ∙ b.1) in
         let k : length a.0 ≡ length refs.now = offsets_length (memory_of m) t.now n refs.now few _ a.1 in
         let rest = drop (length b.0) o'.now in

@@ -144,7 +144,7 @@ pub placement_one :
     placement.Post κs (m, (t, (n, (ws, (o, (g, tt)))))) r (m, (t, (n, (ws, (at_last o l, (at_last g l', tt)))))) →
     placement.Post κs (m, (t, (n, (ws, (o, (g, tt)))))) q (m, (t, (n, (ws, (at_last o k, (at_last g k', tt)))))) → (r ≡ q) × (l ≡ k) × (l' ≡ k')
 placement_one κs m t n ws o g r q l k l' k' h i = (
-  placement_told r q (h.result_value ∙ sym i.result_value) (h.result_value_2 ∙ sym i.result_value_2) (h.result_value_3 ∙ sym i.result_value_3),
-  h.out_after ∙ sym i.out_after,
-  h.gaps_after ∙ sym i.gaps_after,
+  placement_told r q (h.0 ∙ sym i.0) (h.1.1.0 ∙ sym i.1.1.0) (h.1.1.1.1 ∙ sym i.1.1.1.1),
+  h.1.0 ∙ sym i.1.0,
+  h.1.1.1.0 ∙ sym i.1.1.1.0,
 )
