@@ -9,7 +9,6 @@ use Rattle.types.specs.Means.{memory_of, number_of, layout_means}
 use Rattle.questions.specs.Means.{layout_answer_means}
 use Rattle.questions.specs.Steps.{member_layout}
 use Rattle.questions.proofs.Memos.{gives_layout, gives_none, recalled_known, recalled_none, recalled_new}
-use borrow.Author.Rules.{rules}
 use Rattle.questions.proofs.member.recall.Goals as goal
 
 pub overflow_add-result : goal.overflow_add-result

@@ -9,7 +9,6 @@ use Rattle.canon.specs.Cost.{placement_reads}
 use Rattle.canon.specs.Gaps.{room_of, padding, after_answer}
 use Rattle.types.specs.Means.{memory_of}
 use Rattle.canon.proofs.Gaps.{placement_padded, offsets_padded}
-use borrow.Author.Rules.{rules}
 use Rattle.questions.proofs.placing.placement.Goals as goal
 
 pub returns-then-too_many : goal.returns-then-too_many

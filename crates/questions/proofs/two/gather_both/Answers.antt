@@ -5,7 +5,6 @@ use Rattle.canon.specs.Answer.{then}
 use Rattle.types.specs.Means.{memory_of}
 use Rattle.questions.specs.Means.{gathered_means}
 use Rattle.questions.proofs.Positions.{together_below, two_gathered}
-use borrow.Author.Rules.{rules}
 use Rattle.questions.proofs.two.gather_both.Goals as goal
 
 pub overflow_add-result : goal.overflow_add-result
