@@ -42,14 +42,14 @@ fixed_row-requires c =
 pub returns-in-Record : goal.returns-in-Record
 returns-in-Record c = let a = c.args in record {
   rowed_value = rw c.kind_word.ensures at c.members_row.ensures.rowed_value
-      ∙ members_arm (member_look a.table.now a.index.0) a.words.now a.heading.count a.heading.first a.heading.end a.heading.kind c.in-Record.keys1;
+      ∙ members_arm (member_look a.table.now a.index.0) a.words.now a.heading.count a.heading.first a.heading.end a.heading.kind c.in-Record.is;
   made_reads = c.members_row.ensures.made_reads;
 }
 
 pub returns-in-Variant : goal.returns-in-Variant
 returns-in-Variant c = let a = c.args in record {
   rowed_value = rw c.kind_word-in-Variant.ensures at c.variant_row.ensures.rowed_value
-      ∙ cases_arm (member_look a.table.now a.index.0) a.words.now a.heading.count a.heading.first a.heading.end a.heading.kind c.in-Variant.keys2;
+      ∙ cases_arm (member_look a.table.now a.index.0) a.words.now a.heading.count a.heading.first a.heading.end a.heading.kind c.in-Variant.is;
   made_reads = c.variant_row.ensures.made_reads;
 }
 
