@@ -8,7 +8,6 @@ use Rattle.build.specs.Steps.{member_look}
 use Rattle.build.proofs.Arms.{members_arm, cases_arm}
 use Rattle.build.proofs.Folding.{none_between, one_between, two_between}
 use Rattle.build.proofs.Wording.{if_row_holds}
-use borrow.Author.Rules.{rules}
 use Rattle.build.proofs.define.kind_row.Goals as goal
 
 pub list_row-requires : goal.list_row-requires

@@ -12,13 +12,12 @@ use Rattle.build.specs.Kinds.{value_step, entry_row}
 use Rattle.build.specs.Means.{limited_means}
 use Rattle.build.specs.Steps.{limited_of, fit_row}
 use Rattle.build.proofs.ElementLaws.{value_fits}
-use borrow.Author.Rules.{rules}
 use Rattle.build.proofs.members.entry_row.Goals as goal
-use Rattle.build.proofs.members.entry_row.Goals.{After-member-second, After-within_limits}
+use Rattle.build.proofs.members.entry_row.Goals.{After-within_limits}
 
 -- the second step is the value's, and what is tested is its extents closed
 second_is :
-    (c : After-member-second) →
+    (c : After-within_limits) →
     c.member-second.result ≡ steps_of (both (λ m. value_step m (info_means c.args.key) (info_means c.args.value)))
 second_is c = rw (c.member-second.ensures, c.member-first.ensures)
 
@@ -27,25 +26,21 @@ limited_is :
     let a = c.args in
     limited_means c.within_limits.result
     ≡ limited_of (both (λ m. close_of (value_step m (info_means a.key) (info_means a.value)).extent)) (join_reach (reach_means a.key.reach) (reach_means a.value.reach))
-limited_is c =
-    let second : c.member-second.result ≡ steps_of (both (λ m. value_step m (info_means c.args.key) (info_means c.args.value))) =
-        rw (c.member-second.ensures, c.member-first.ensures)
-    in
-    rw (c.within_limits.ensures, c.join.ensures, word_back, c.close.ensures, second)
+limited_is c = rw (c.within_limits.ensures, c.join.ensures, word_back, c.close.ensures, second_is c)
 
 pub overflow_cast-inner : goal.overflow_cast-inner
 overflow_cast-inner c =
     let a = c.args in
-    let at = goal.at.overflow_cast-inner c in
-    rw (second_is at.After-member-second)
-    (omega (arith, value_fits (info_means a.key) (info_means a.value) _ _ (sym (ap limited_means c.in-Within.is) ∙ limited_is at.After-within_limits) mem32))
+    let at = (goal.at.overflow_cast-inner c).After-within_limits in
+    let fits = value_fits (info_means a.key) (info_means a.value) _ _ (sym (ap limited_means c.in-Within.is) ∙ limited_is at) in
+    rw (second_is at) (omega (arith, fits mem32, fits mem64))
 
 pub overflow_cast-inner-in-Within : goal.overflow_cast-inner-in-Within
 overflow_cast-inner-in-Within c =
     let a = c.args in
-    let at = goal.at.overflow_cast-inner-in-Within c in
-    rw (second_is at.After-member-second)
-    (omega (arith, value_fits (info_means a.key) (info_means a.value) _ _ (sym (ap limited_means c.in-Within.is) ∙ limited_is at.After-within_limits) mem64))
+    let at = (goal.at.overflow_cast-inner-in-Within c).After-within_limits in
+    let fits = value_fits (info_means a.key) (info_means a.value) _ _ (sym (ap limited_means c.in-Within.is) ∙ limited_is at) in
+    rw (second_is at) (omega (arith, fits mem32, fits mem64))
 
 pub returns-in-Refused : goal.returns-in-Refused
 unfolding entry_row fit_row and_then
@@ -54,5 +49,5 @@ returns-in-Refused c = simp (← limited_is (goal.at.returns-in-Refused c).After
 pub returns-in-Within : goal.returns-in-Within
 unfolding entry_row fit_row and_then
 returns-in-Within c =
-    let at = goal.at.returns-in-Within c in
-    simp (c.pair_row.ensures, second_is at.After-member-second, ← limited_is at.After-within_limits, c.in-Within.is)
+    let at = (goal.at.returns-in-Within c).After-within_limits in
+    simp (c.pair_row.ensures, second_is at, ← limited_is at, c.in-Within.is)
