@@ -25,8 +25,8 @@ limited_is :
     (c : After-within_limits) →
     let a = c.args in
     limited_means c.within_limits.result
-    ≡ limited_of (both (λ m. close_of (value_step m (info_means a.key) (info_means a.value)).extent)) (join_reach (reach_means a.key.reach) (reach_means a.value.reach))
-limited_is c = rw (c.within_limits.ensures, c.join.ensures, word_back, c.close.ensures, second_is c)
+    ≡ limited_of (both (λ m. close_of (value_step m (info_means a.key) (info_means a.value)).extent)) (reach_means c.join.result)
+limited_is c = rw (c.within_limits.ensures, c.close.ensures, second_is c)
 
 pub overflow_cast-inner : goal.overflow_cast-inner
 overflow_cast-inner c =
@@ -44,10 +44,15 @@ overflow_cast-inner-in-Within c =
 
 pub returns-in-Refused : goal.returns-in-Refused
 unfolding entry_row fit_row and_then
-returns-in-Refused c = simp (← limited_is (goal.at.returns-in-Refused c).After-within_limits, c.in-Refused.is)
+returns-in-Refused c =
+    let a = c.args in
+    let reached : reach_means c.join.result ≡ join_reach (reach_means a.key.reach) (reach_means a.value.reach) = rw (c.join.ensures, word_back) in
+    simp (← reached, ← limited_is (goal.at.returns-in-Refused c).After-within_limits, c.in-Refused.is)
 
 pub returns-in-Within : goal.returns-in-Within
 unfolding entry_row fit_row and_then
 returns-in-Within c =
+    let a = c.args in
     let at = (goal.at.returns-in-Within c).After-within_limits in
-    simp (c.pair_row.ensures, second_is at, ← limited_is at, c.in-Within.is)
+    let reached : reach_means c.join.result ≡ join_reach (reach_means a.key.reach) (reach_means a.value.reach) = rw (c.join.ensures, word_back) in
+    simp (c.pair_row.ensures, second_is at, ← reached, ← limited_is at, c.in-Within.is)
