@@ -17,10 +17,10 @@ use Rattle.host.proofs.build_bytes.build_long.Goals as goal
 pub slice_bounds-build_into-end : goal.slice_bounds-build_into-end
 slice_bounds-build_into-end c =
     let w = c.words_of-count in
-    sym (length-take-le w.result w.new.1.0 (search rules))
+    sym (length-take-le w.result w.new.words (search rules))
 
 pub slice_bounds-build_into-end-2 : goal.slice_bounds-build_into-end-2
-slice_bounds-build_into-end-2 c = let w = c.words_of-room in sym (length-take-le w.result w.new.1.0 (search rules))
+slice_bounds-build_into-end-2 c = let w = c.words_of-room in sym (length-take-le w.result w.new.words (search rules))
 
 pub returns : goal.returns
 returns c =
@@ -30,11 +30,11 @@ returns c =
     let into = c.build_into in
     let all = front_all _ _ 16384 (search rules) (search rules) words.ensures.0 words.ensures.1 in
     let rows = front_all _ _ 16384 (search rules) (search rules) table.ensures.0 table.ensures.1 in
-    let after = into.new.1.0 in record {
-      value = into.ensures.0 ∙ ap₂ (λ (ws u : List ℕ). build_number (build_answer ws u) (build_reads ws u)) all rows;
-      table_after = into.ensures.1.1
+    let after = into.new.table in record {
+      value = into.ensures.value ∙ ap₂ (λ (ws u : List ℕ). build_number (build_answer ws u) (build_reads ws u)) all rows;
+      table_after = into.ensures.bytes_after
           ∙ ap (λ (v : List ℕ). put_words 0 v t)
-          (take_all (length t / 4) after (omega (arith, into.ensures.1.0.1, ap length rows, length_whole t))
-          ∙ into.ensures.1.0.0
+          (take_all (length t / 4) after (omega (arith, into.ensures.table_after.1, ap length rows, length_whole t))
+          ∙ into.ensures.table_after.0
           ∙ ap₂ table_after all rows);
     }

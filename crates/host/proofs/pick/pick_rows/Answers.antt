@@ -42,9 +42,9 @@ loop-k-preserved c =
       omega arith,
       l.invariant.1,
       simp length-set l.invariant.2,
-      keeps_on a.slot l.k a.picked.now l.picked _ l.invariant.3 r.ensures.1,
-      picking_more a.slot l.k l.picked l.names (whole_words a.table.now) a.rows (whole_words a.list.now) l.invariant.4 _ r.result (omega (arith, c.requires.2, l.invariant.1, l.invariant.2)) r.ensures.1 r.ensures.0.0
-          (r.ensures.0.1 ∙ ap (read (whole_words a.table.now) a.rows) c.word_at.ensures),
+      keeps_on a.slot l.k a.picked.now l.picked _ l.invariant.3 r.ensures.keeps,
+      picking_more a.slot l.k l.picked l.names (whole_words a.table.now) a.rows (whole_words a.list.now) l.invariant.4 _ r.result (omega (arith, c.requires.2, l.invariant.1, l.invariant.2)) r.ensures.keeps r.ensures.upper_bound.0
+          (r.ensures.upper_bound.1 ∙ ap (read (whole_words a.table.now) a.rows) c.word_at.ensures),
     )
 
 pub returns : goal.returns
@@ -53,11 +53,10 @@ returns c =
     let p = c.requires in
     let l = c.loop-k in
     let whole = le_antisymm l.invariant.0 c.loop-k-test.false in
-    let all = whole ∙ sym (length_whole a.list.now) in (
-      (refl, l.invariant.2),
-      (
-        rw (← whole)
-            (picking_all a.slot l.k l.picked l.names (whole_words a.table.now) a.rows (whole_words a.list.now) l.invariant.4 all (omega (arith, whole, p.2, l.invariant.2))),
-        l.invariant.3,
-      ),
-    )
+    let all = whole ∙ sym (length_whole a.list.now) in record {
+      value = (refl, l.invariant.2);
+      names =
+          rw (← whole)
+          (picking_all a.slot l.k l.picked l.names (whole_words a.table.now) a.rows (whole_words a.list.now) l.invariant.4 all (omega (arith, whole, p.2, l.invariant.2)));
+      keeps = l.invariant.3;
+    }

@@ -25,4 +25,4 @@ returns c =
     let there = sym c.no_rows.ensures ∙ c.if-no_rows.false in
     let pick = c.pick_row-name in
     c.lampughjata_size_align.ensures
-    ∙ rw (type_alike _ (whole_words a.table.now) 1 a.rows (rw pick.ensures.1.size room_1) there _ a.reference pick.ensures.0.1)
+    ∙ rw (type_alike _ (whole_words a.table.now) 1 a.rows (rw pick.ensures.keeps.size room_1) there _ a.reference pick.ensures.upper_bound.1)

@@ -4,4 +4,10 @@ use Rattle.host.proofs.table_bytes.place_into.Goals as goal
 pub returns : goal.returns
 returns c =
     let placed = c.lampughjata_placement-answer.ensures in
-    (placed.0, ((placed.1.0, search rules), ((placed.1.1, search rules), (c.put_words.ensures, c.put_words-2.ensures))))
+    record {
+      value = placed.value;
+      offsets_after = (placed.offsets_after, search rules);
+      gaps_after = (placed.gaps_after, search rules);
+      offset_bytes_after = c.put_words.ensures;
+      gap_bytes_after = c.put_words-2.ensures;
+    }

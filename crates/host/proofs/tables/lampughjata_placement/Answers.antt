@@ -6,9 +6,13 @@ use Rattle.host.proofs.tables.lampughjata_placement.Goals as goal
 pub placement_number-requires : goal.placement_number-requires
 placement_number-requires c =
     let placed = c.placement.ensures in
-    (rw placed.0 (placement_short _ _ _ _ _), rw placed.1.1.0 (placement_few _ _ _ _ _), rw placed.1.1.1.1 (after_short _ _ _ _ _))
+    (rw placed.result_value (placement_short _ _ _ _ _), rw placed.result_value_2 (placement_few _ _ _ _ _), rw placed.result_value_3 (after_short _ _ _ _ _))
 
 pub returns : goal.returns
 returns c =
     let placed = rw c.memory_at.ensures at c.placement.ensures in
-    (rw (← placed.0, ← placed.1.1.0, ← placed.1.1.1.1) c.placement_number.ensures, (placed.1.0, placed.1.1.1.0))
+    record {
+      value = rw (← placed.result_value, ← placed.result_value_2, ← placed.result_value_3) c.placement_number.ensures;
+      offsets_after = placed.out_after;
+      gaps_after = placed.gaps_after;
+    }

@@ -14,7 +14,7 @@ use Rattle.host.proofs.Several.{one_more_lem, no_more}
 use Rattle.host.proofs.variants.cases_of_bytes.Given as goal
 
 abbrev pub invariant-loop-j : goal.invariant-loop-j
-invariant-loop-j l = (l.j ≤ l.n) × (l.n ≡ length l.bytes / 4 / 6) × (add_cases (cases_means l.state) (several (item l.bytes) l.j (l.n - l.j)) ≡ add_cases no_cases (lent_cases (whole_words l.bytes)))
+invariant-loop-j l = (l.j ≤ l.n) × (l.n ≡ length l.bytes / 4 / 6) × (add_cases (cases_means l.state) (several (λ i. case_at (whole_words l.bytes) (6 * i)) l.j (l.n - l.j)) ≡ add_cases no_cases (lent_cases (whole_words l.bytes)))
 
 abbrev pub decreases-loop-j : goal.decreases-loop-j
 decreases-loop-j l = l.n - l.j
