@@ -35,6 +35,6 @@ placement_kept κs memory t n references out gs r x i l k post bytes gap-bytes e
     let refused-so = then_refused _ (padding m table n ws room) x i (sym (placement_padded m table n ws room) ∙ e) in
     let offsets = offsets_padded m table n ws room (whole_words out.now) ∙ unwritten offsets_of _ x i (whole_words out.now) refused-so in
     let gaps = unwritten gaps_of _ x i (whole_words gs.now) refused-so in (
-      post.offsets_after ∙ ap (λ (u : List ℕ). put_words 0 u out.now) offsets ∙ put_same out.now bytes,
-      post.gaps_after ∙ ap (λ (u : List ℕ). put_words 0 u gs.now) gaps ∙ put_same gs.now gap-bytes,
+      post.1.0 ∙ ap (λ (u : List ℕ). put_words 0 u out.now) offsets ∙ put_same out.now bytes,
+      post.1.1 ∙ ap (λ (u : List ℕ). put_words 0 u gs.now) gaps ∙ put_same gs.now gap-bytes,
     )

@@ -92,10 +92,10 @@ bytes_read b t = go (too_many_bytes b) (cut_bytes b)
 
 module _ (κs : Lfts 2) (ws : Bor (List ℕ)) (t : MutBor (List ℕ)) (r : ℕ) (l : List ℕ) where
   pub build_bits : build.Post κs (ws, (t, tt)) r (ws, (at_last t l, tt)) → BuildBits (build_answer ws.now t.now) (build_reads ws.now t.now) r
-  build_bits promise = rw promise.value (build_read ws.now t.now)
+  build_bits promise = rw promise.0 (build_read ws.now t.now)
 
   pub build_bytes_bits : build-bytes.Post κs (ws, (t, tt)) r (ws, (at_last t l, tt)) → BuildBits (build_bytes ws.now t.now) (reads_of_bytes ws.now t.now) r
-  build_bytes_bits promise = rw promise.value (bytes_read ws.now t.now)
+  build_bytes_bits promise = rw promise.0 (bytes_read ws.now t.now)
 
 -- Placements
 
@@ -134,13 +134,13 @@ module _ (κs : Lfts 4) (memory : ℕ) (t : Bor (List ℕ)) (n : ℕ) (refs : Bo
   pub placement_bits :
       placement.Post κs (memory, (t, (n, (refs, (o, (g, tt)))))) r (memory, (t, (n, (refs, (at_last o l, (at_last g k, tt)))))) →
       AnsweredBits (memory_at memory) t.now n refs.now (room_of o.now g.now) r
-  placement_bits promise = rw promise.value (placement_read (memory_at memory) t.now n refs.now (room_of o.now g.now))
+  placement_bits promise = rw promise.0 (placement_read (memory_at memory) t.now n refs.now (room_of o.now g.now))
 
   pub placement_bytes_bits :
       placement-bytes.Post κs (memory, (t, (n, (refs, (o, (g, tt)))))) r (memory, (t, (n, (refs, (at_last o l, (at_last g k, tt)))))) →
       AnsweredBits (memory_at memory) (whole_words t.now) n (whole_words refs.now) (room_of (whole_words o.now) (whole_words g.now)) r
   placement_bytes_bits promise =
-      rw promise.value (placement_read (memory_at memory) (whole_words t.now) n (whole_words refs.now) (room_of (whole_words o.now) (whole_words g.now)))
+      rw promise.0 (placement_read (memory_at memory) (whole_words t.now) n (whole_words refs.now) (room_of (whole_words o.now) (whole_words g.now)))
 
 -- The rounding leaf
 

@@ -83,7 +83,7 @@ pub build_one :
     build.Post κs (x0, (x1, tt)) r (x0, (at_last x1 l, tt)) →
     build.Post κs (x0, (x1, tt)) q (x0, (at_last x1 k, tt)) →
     (r ≡ q) × (l ≡ k)
-build_one κs x0 x1 r q l k g h = (g.value ∙ sym h.value, g.table_after ∙ sym h.table_after)
+build_one κs x0 x1 r q l k g h = (g.0 ∙ sym h.0, g.1 ∙ sym h.1)
 
 pub type_one : (κs : Lfts 1) → Single (type.Post κs)
 type_one κs a r q g h = g ∙ sym h
@@ -96,7 +96,7 @@ pub placement_one :
     placement.Post κs (x0, (x1, (x2, (x3, (x4, (x5, tt)))))) r (x0, (x1, (x2, (x3, (at_last x4 l, (at_last x5 l', tt)))))) →
     placement.Post κs (x0, (x1, (x2, (x3, (x4, (x5, tt)))))) q (x0, (x1, (x2, (x3, (at_last x4 k, (at_last x5 k', tt)))))) →
     (r ≡ q) × (l ≡ k) × (l' ≡ k')
-placement_one κs x0 x1 x2 x3 x4 x5 r q l k l' k' g h = (g.value ∙ sym h.value, g.offsets_after ∙ sym h.offsets_after, g.gaps_after ∙ sym h.gaps_after)
+placement_one κs x0 x1 x2 x3 x4 x5 r q l k l' k' g h = (g.0 ∙ sym h.0, g.1.0 ∙ sym h.1.0, g.1.1 ∙ sym h.1.1)
 
 pub flatten_one : (κs : Lfts 2) → Single (flatten.Post κs)
 flatten_one κs a r q g h = g ∙ sym h
@@ -130,7 +130,7 @@ pub build_bytes_one :
     build-bytes.Post κs (x0, (x1, tt)) r (x0, (at_last x1 l, tt)) →
     build-bytes.Post κs (x0, (x1, tt)) q (x0, (at_last x1 k, tt)) →
     (r ≡ q) × (l ≡ k)
-build_bytes_one κs x0 x1 r q l k g h = (g.value ∙ sym h.value, g.table_after ∙ sym h.table_after)
+build_bytes_one κs x0 x1 r q l k g h = (g.0 ∙ sym h.0, g.1 ∙ sym h.1)
 
 pub type_bytes_one : (κs : Lfts 1) → Single (type-bytes.Post κs)
 type_bytes_one κs a r q g h = g ∙ sym h
@@ -143,7 +143,7 @@ pub placement_bytes_one :
     placement-bytes.Post κs (x0, (x1, (x2, (x3, (x4, (x5, tt)))))) r (x0, (x1, (x2, (x3, (at_last x4 l, (at_last x5 l', tt)))))) →
     placement-bytes.Post κs (x0, (x1, (x2, (x3, (x4, (x5, tt)))))) q (x0, (x1, (x2, (x3, (at_last x4 k, (at_last x5 k', tt)))))) →
     (r ≡ q) × (l ≡ k) × (l' ≡ k')
-placement_bytes_one κs x0 x1 x2 x3 x4 x5 r q l k l' k' g h = (g.value ∙ sym h.value, g.offsets_after ∙ sym h.offsets_after, g.gaps_after ∙ sym h.gaps_after)
+placement_bytes_one κs x0 x1 x2 x3 x4 x5 r q l k l' k' g h = (g.0 ∙ sym h.0, g.1.0 ∙ sym h.1.0, g.1.1 ∙ sym h.1.1)
 
 pub flatten_bytes_one : (κs : Lfts 2) → Single (flatten-bytes.Post κs)
 flatten_bytes_one κs a r q g h = g ∙ sym h
