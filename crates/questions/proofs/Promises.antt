@@ -11,7 +11,7 @@ use lib.ListN.{length, get_or, take, drop, length-map}
 use lib.Seq.{take_at}
 use lib.Dec.{ltb}
 use borrow.Author.Tests.{le-ltb}
-use denote.Ref.{MutBor, at_last}
+use denote.Ref.{Bor, MutBor, at_last}
 use contract.Lifetimes.{Lfts}
 use Rattle.canon.specs.Answer.{Answer, ok, refused, then, unless, too_large}
 use Rattle.canon.specs.Types.{Ty}
@@ -68,7 +68,7 @@ answered (ok p) f out after e w = let g : f ≡ p.layout = cc in (p.offsets, rw 
 answered (refused x p) f out after e w = impossible (cc)
 
 module _
-    (κs : Lfts 4) (m : Memory) (t : MutBor (List ℕ)) (n : ℕ) (ws o g : MutBor (List ℕ)) (l k : List ℕ) (is' : List Info)
+    (κs : Lfts 4) (m : Memory) (t : Bor (List ℕ)) (n : ℕ) (ws : Bor (List ℕ)) (o g : MutBor (List ℕ)) (l k : List ℕ) (is' : List Info)
     (reads : Reads t.now n ws.now (room_of o.now g.now) is')
   where
     abbrev room : ℕ
@@ -145,7 +145,7 @@ module _
 
 -- Tables that a build wrote, of a description ws into a buffer t₀
 
-module _ (κs : Lfts 1) (t : MutBor (List ℕ)) (n w : ℕ) (ws t₀ : List ℕ) (u : Ty)
+module _ (κs : Lfts 1) (t : Bor (List ℕ)) (n w : ℕ) (ws t₀ : List ℕ) (u : Ty)
     (table : t.now ≡ table_after ws t₀) (rows : n ≤ length (built ws t₀).types) (named : reference (take n (built ws t₀).types) w ≡ some u)
   where
     pub type_of_lem : (r : TypeAnswer) → canonical-abi.Post κs (t, (n, (w, tt))) r (t, (n, (w, tt))) → type_means r ≡ ok (info_of u)
@@ -159,7 +159,7 @@ module _ (κs : Lfts 1) (t : MutBor (List ℕ)) (n w : ℕ) (ws t₀ : List ℕ)
         go mem32 = refl
         go mem64 = refl
 
-module _ (m : Memory) (t : MutBor (List ℕ)) (n : ℕ) (refs : MutBor (List ℕ)) (ws t₀ : List ℕ) (us : List Ty)
+module _ (m : Memory) (t : Bor (List ℕ)) (n : ℕ) (refs : Bor (List ℕ)) (ws t₀ : List ℕ) (us : List Ty)
     (table : t.now ≡ table_after ws t₀) (names : Names ws t₀ n refs.now us)
   where
     pub gathered_of_lem :
@@ -206,7 +206,7 @@ module _ (m : Memory) (t : MutBor (List ℕ)) (n : ℕ) (refs : MutBor (List ℕ
 -- One list of references placed in both memories, over a table that a build wrote, both with room for offsets and gaps or neither
 
 module _
-    (κs κs' : Lfts 4) (t refs o g o' g' : MutBor (List ℕ)) (n : ℕ) (ws t₀ : List ℕ) (r r' : PlacementAnswer) (l k l' k' : List ℕ)
+    (κs κs' : Lfts 4) (t refs : Bor (List ℕ)) (o g o' g' : MutBor (List ℕ)) (n : ℕ) (ws t₀ : List ℕ) (r r' : PlacementAnswer) (l k l' k' : List ℕ)
     (table : t.now ≡ table_after ws t₀) (rows : n ≤ length (built ws t₀).types)
     (alike : ltb (room_of o.now g.now) (length refs.now) ≡ ltb (room_of o'.now g'.now) (length refs.now))
     (narrow : placement.Post κs (Memory32, (t, (n, (refs, (o, (g, tt)))))) r (Memory32, (t, (n, (refs, (at_last o l, (at_last g k, tt)))))))
@@ -245,7 +245,7 @@ module _
 -- 02, order 6: "Placement reports likewise for its references"
 
 module _
-    (κs : Lfts 4) (m : Memory) (t : MutBor (List ℕ)) (n : ℕ) (refs o g : MutBor (List ℕ)) (r : PlacementAnswer) (l k : List ℕ)
+    (κs : Lfts 4) (m : Memory) (t : Bor (List ℕ)) (n : ℕ) (refs : Bor (List ℕ)) (o g : MutBor (List ℕ)) (r : PlacementAnswer) (l k : List ℕ)
     (promise : placement.Post κs (m, (t, (n, (refs, (o, (g, tt)))))) r (m, (t, (n, (refs, (at_last o l, (at_last g k, tt)))))))
   where
     -- accepted, it reports how many of the references are of the form 64+j
@@ -268,7 +268,7 @@ module _
 -- Two lists in one memory, one the other with references appended, over any table
 
 module _
-    (κs κs' : Lfts 4) (m : Memory) (t refs refs' o g o' g' : MutBor (List ℕ)) (n : ℕ) (vs : List ℕ) (u v : Whole) (l k l' k' : List ℕ)
+    (κs κs' : Lfts 4) (m : Memory) (t refs refs' : Bor (List ℕ)) (o g o' g' : MutBor (List ℕ)) (n : ℕ) (vs : List ℕ) (u v : Whole) (l k l' k' : List ℕ)
     (appended : refs'.now ≡ refs.now ++ vs)
     (fewer : placement.Post κs (m, (t, (n, (refs, (o, (g, tt)))))) (answer.Whole u) (m, (t, (n, (refs, (at_last o l, (at_last g k, tt)))))))
     (all : placement.Post κs' (m, (t, (n, (refs', (o', (g', tt)))))) (answer.Whole v) (m, (t, (n, (refs', (at_last o' l', (at_last g' k', tt)))))))

@@ -3,7 +3,7 @@ use mathlib.Core.Path.{◌≡◌, refl, sym, ap, ◌∙◌}
 use mathlib.Core.Bool.{Bool}
 use mathlib.Core.List.{List}
 use Prim.Native.Nat.{ℕ}
-use denote.Ref.{MutBor, at_last}
+use denote.Ref.{Bor, MutBor, at_last}
 use contract.Lifetimes.{Lfts}
 use Rattle.canon.specs.Answer.{Answer, ok, refused}
 use Rattle.canon.specs.Layout as canon
@@ -110,37 +110,37 @@ unfolding two_of gathering_of
 two_back (two.Both g h) = refl
 two_back (two.Refused x p) = ap (λ (y : Refusal). two.Refused y p) (refusal_back x)
 
-pub too_many_one : (κs : Lfts 1) (ws : MutBor (List ℕ)) (r q : Bool) → too_many.Post κs (ws, tt) r (ws, tt) → too_many.Post κs (ws, tt) q (ws, tt) → r ≡ q
+pub too_many_one : (κs : Lfts 1) (ws : Bor (List ℕ)) (r q : Bool) → too_many.Post κs (ws, tt) r (ws, tt) → too_many.Post κs (ws, tt) q (ws, tt) → r ≡ q
 too_many_one κs ws r q g h = g ∙ sym h
 
 pub no_table_one :
-    (κs : Lfts 1) (t : MutBor (List ℕ)) (n : ℕ) (r q : Bool) →
+    (κs : Lfts 1) (t : Bor (List ℕ)) (n : ℕ) (r q : Bool) →
     no_table.Post κs (t, (n, tt)) r (t, (n, tt)) → no_table.Post κs (t, (n, tt)) q (t, (n, tt)) → r ≡ q
 no_table_one κs t n r q g h = g ∙ sym h
 
 pub canonical_abi_one :
-    (κs : Lfts 1) (t : MutBor (List ℕ)) (n w : ℕ) (r q : TypeAnswer) →
+    (κs : Lfts 1) (t : Bor (List ℕ)) (n w : ℕ) (r q : TypeAnswer) →
     canonical-abi.Post κs (t, (n, (w, tt))) r (t, (n, (w, tt))) → canonical-abi.Post κs (t, (n, (w, tt))) q (t, (n, (w, tt))) → r ≡ q
 canonical_abi_one κs t n w r q g h = told type_means type_answer_of type_back r q (g ∙ sym h)
 
 pub size_align_one :
-    (κs : Lfts 1) (m : Memory) (t : MutBor (List ℕ)) (n w : ℕ) (r q : LayoutAnswer) →
+    (κs : Lfts 1) (m : Memory) (t : Bor (List ℕ)) (n w : ℕ) (r q : LayoutAnswer) →
     size-align.Post κs (m, (t, (n, (w, tt)))) r (m, (t, (n, (w, tt)))) → size-align.Post κs (m, (t, (n, (w, tt)))) q (m, (t, (n, (w, tt)))) → r ≡ q
 size_align_one κs m t n w r q g h = told layout_answer_means layout_answer_of layout_back r q (g ∙ sym h)
 
 pub gather_one :
-    (κs : Lfts 2) (m : Memory) (t : MutBor (List ℕ)) (n : ℕ) (ws : MutBor (List ℕ)) (r q : Gathered) →
+    (κs : Lfts 2) (m : Memory) (t : Bor (List ℕ)) (n : ℕ) (ws : Bor (List ℕ)) (r q : Gathered) →
     gather.Post κs (m, (t, (n, (ws, tt)))) r (m, (t, (n, (ws, tt)))) → gather.Post κs (m, (t, (n, (ws, tt)))) q (m, (t, (n, (ws, tt)))) → r ≡ q
 gather_one κs m t n ws r q g h = told gathered_means gathered_of gathered_back r q (g ∙ sym h)
 
 pub gather_two_one :
-    (κs : Lfts 3) (t : MutBor (List ℕ)) (n : ℕ) (a : Memory) (vs : MutBor (List ℕ)) (b : Memory) (ws : MutBor (List ℕ)) (r q : GatheredTwo) →
+    (κs : Lfts 3) (t : Bor (List ℕ)) (n : ℕ) (a : Memory) (vs : Bor (List ℕ)) (b : Memory) (ws : Bor (List ℕ)) (r q : GatheredTwo) →
     gather-two.Post κs (t, (n, (a, (vs, (b, (ws, tt)))))) r (t, (n, (a, (vs, (b, (ws, tt)))))) →
     gather-two.Post κs (t, (n, (a, (vs, (b, (ws, tt)))))) q (t, (n, (a, (vs, (b, (ws, tt)))))) → r ≡ q
 gather_two_one κs t n a vs b ws r q g h = told two_means two_of two_back r q (g ∙ sym h)
 
 pub placement_one :
-    (κs : Lfts 4) (m : Memory) (t : MutBor (List ℕ)) (n : ℕ) (ws o g : MutBor (List ℕ)) (r q : PlacementAnswer) (l k : List ℕ) (l' k' : List ℕ) →
+    (κs : Lfts 4) (m : Memory) (t : Bor (List ℕ)) (n : ℕ) (ws : Bor (List ℕ)) (o g : MutBor (List ℕ)) (r q : PlacementAnswer) (l k : List ℕ) (l' k' : List ℕ) →
     placement.Post κs (m, (t, (n, (ws, (o, (g, tt)))))) r (m, (t, (n, (ws, (at_last o l, (at_last g l', tt)))))) →
     placement.Post κs (m, (t, (n, (ws, (o, (g, tt)))))) q (m, (t, (n, (ws, (at_last o k, (at_last g k', tt)))))) → (r ≡ q) × (l ≡ k) × (l' ≡ k')
 placement_one κs m t n ws o g r q l k l' k' h i = (

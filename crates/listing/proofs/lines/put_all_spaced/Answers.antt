@@ -15,7 +15,7 @@ unfolding spaced_all
 loop-k-init c = (omega arith, refl, puts_none _ _)
 
 pub loop-k-preserved : goal.loop-k-preserved
-loop-k-preserved c = (search rules, search rules, puts_as (spaced_turn c.args.t3 c.loop-k.k (omega arith)) (omega arith) (puts_then c.loop-k.invariant.2 c.put_spaced-end.ensures))
+loop-k-preserved c = (search rules, search rules, puts_as (spaced_turn c.args.numbers c.loop-k.k (omega arith)) (omega arith) (puts_then c.loop-k.invariant.2 c.put_spaced-end.ensures))
 
 pub returns : goal.returns
-returns c = puts_as (ap spaced_all (take_all c.loop-k.k c.args.t3 (omega arith))) (omega arith) c.loop-k.invariant.2
+returns c = puts_as (ap spaced_all (take_all c.loop-k.k c.args.numbers (omega arith))) (omega arith) c.loop-k.invariant.2

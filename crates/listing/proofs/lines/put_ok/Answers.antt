@@ -6,10 +6,6 @@ use Rattle.listing.proofs.Writing.{puts_as, puts_then}
 use borrow.Author.Rules.{rules}
 use Rattle.listing.proofs.lines.put_ok.Goals as goal
 
--- ? no such goal
-slice-aggregate-put-bytes : tie.Need-slice-aggregate-put-bytes
-slice-aggregate-put-bytes c = search rules
-
 pub returns : goal.returns
 unfolding end_line
 returns c = puts_as refl (omega arith) (puts_then (puts_then c.put_bytes-number.ensures c.put_digits-end.ensures) c.put_byte.ensures)

@@ -1,6 +1,4 @@
 -- Each test decides the text; the decoded front holds the whole words (`printed_words`).
-use mathlib.Core.Path.{sym}
-use lib.Seq.{length-take-le}
 use native.Mathlib.Omega.{arith}
 use Rattle.listing.proofs.Telling.{printed_long, printed_odd, printed_words}
 use Rattle.listing.proofs.Writing.{puts_as}
@@ -13,11 +11,8 @@ returns-then-bytes-gt-MAX_BYTES c = puts_as (rw c.number.ensures (printed_long _
 pub returns-then-bytes-gt0 : goal.returns-then-bytes-gt0
 returns-then-bytes-gt0 c = puts_as (rw c.number-then-bytes-gt0.ensures (printed_odd _ c.if-bytes-gt-MAX_BYTES.false c.if-bytes-gt0.true)) (omega arith) c.put_refused-then-bytes-gt0.ensures
 
-pub slice_bounds-describe-end : goal.slice_bounds-describe-end
-slice_bounds-describe-end c = let w = c.words_of-count in sym (length-take-le w.result w.new.1.0 (search rules))
-
 pub returns : goal.returns
 returns c =
     let w = c.words_of-count in
-    let e = printed_words _ _ w.new.1.0 w.result (search rules) c.if-bytes-gt-MAX_BYTES.false c.if-bytes-gt0.false w.ensures.0 w.ensures.1 in
+    let e = printed_words _ _ w.new.words w.result (search rules) c.if-bytes-gt-MAX_BYTES.false c.if-bytes-gt0.false w.ensures.0 w.ensures.1 in
     puts_as e (omega arith) c.describe.ensures

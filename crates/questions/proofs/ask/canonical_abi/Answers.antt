@@ -4,7 +4,6 @@ use Rattle.canon.specs.Answer.{at_position, unless}
 use Rattle.canon.specs.Question.{type_answer}
 use Rattle.questions.specs.Means.{reading_means}
 use Rattle.questions.proofs.WellFormed.{read_counted, counted_byte}
-use borrow.Author.Rules.{rules}
 use Rattle.questions.proofs.ask.canonical_abi.Goals as goal
 
 pub returns-then-no_table : goal.returns-then-no_table

@@ -1,6 +1,5 @@
 -- The test picks the case.
 use borrow.Author.Tests.{eq-eqb, ne_eqb}
-use borrow.Author.Rules.{rules}
 use Rattle.questions.proofs.ask.flat_count.Goals as goal
 
 pub returns-then-count-eq-NO_FLAT_COUNT : goal.returns-then-count-eq-NO_FLAT_COUNT

@@ -1,7 +1,6 @@
 -- A word below 64 names no row.
 use borrow.Author.Tests.{lt-leb}
 use Rattle.canon.specs.Question.{read}
-use borrow.Author.Rules.{rules}
 use Rattle.questions.proofs.ask.read.Goals as goal
 
 pub returns-in-Info : goal.returns-in-Info

@@ -2,7 +2,6 @@
 use mathlib.Core.Path.{sym, ◌∙◌}
 use Rattle.canon.specs.Question.{read_row}
 use Rattle.questions.proofs.References.{read_named, read_past}
-use borrow.Author.Rules.{rules}
 use Rattle.questions.proofs.ask.read_row.Goals as goal
 
 pub returns-then-is_good_row : goal.returns-then-is_good_row

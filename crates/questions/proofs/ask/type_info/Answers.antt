@@ -1,6 +1,5 @@
 -- The count alone changes its form.
 use Rattle.canon.specs.Reach.{word_reach}
-use borrow.Author.Rules.{rules}
 use Rattle.questions.proofs.ask.type_info.Goals as goal
 
 pub returns : goal.returns

@@ -3,7 +3,6 @@ use mathlib.Core.Path.{sym, ◌∙◌}
 use borrow.Author.Tests.{ltb-false}
 use Rattle.canon.specs.Answer.{unless}
 use Rattle.questions.specs.Gathers.{gather_answer}
-use borrow.Author.Rules.{rules}
 use Rattle.questions.proofs.list.gather.Goals as goal
 
 pub returns-then-too_many : goal.returns-then-too_many

@@ -12,7 +12,6 @@ use Rattle.table.specs.declared.reach.Reach.{Reach}
 use Rattle.questions.specs.Means.{named_means}
 use Rattle.questions.proofs.References.{read_plain}
 use Rattle.questions.proofs.WellFormed.{read_alone}
-use borrow.Author.Rules.{rules}
 use Rattle.questions.proofs.list.read_next.Goals as goal
 
 pub returns-in-Info : goal.returns-in-Info

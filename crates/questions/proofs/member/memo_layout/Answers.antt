@@ -1,5 +1,4 @@
 -- Each half of the word.
-use borrow.Author.Rules.{rules}
 use Rattle.questions.proofs.member.memo_layout.Goals as goal
 
 pub returns : goal.returns

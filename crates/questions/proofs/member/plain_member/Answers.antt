@@ -1,7 +1,6 @@
 -- What a plain reference is, in one memory.
 use mathlib.Core.Path.{refl}
 use Rattle.canon.specs.Answer.{and_then}
-use borrow.Author.Rules.{rules}
 use Rattle.questions.proofs.member.plain_member.Goals as goal
 
 pub returns-in-Info : goal.returns-in-Info

@@ -2,7 +2,6 @@
 use native.Mathlib.Nat.{add-zero}
 use Rattle.canon.proofs.Costs.{plain_unread}
 use Rattle.questions.proofs.References.{read_plain}
-use borrow.Author.Rules.{rules}
 use Rattle.questions.proofs.member.read_member.Goals as goal
 
 pub returns-then-reference-lt-FIRST_DEFINITION : goal.returns-then-reference-lt-FIRST_DEFINITION

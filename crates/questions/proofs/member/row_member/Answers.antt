@@ -7,7 +7,6 @@ use Rattle.canon.proofs.Cells.{rows_most}
 use Rattle.canon.proofs.Costs.{earlier_read}
 use Rattle.table.proofs.Reading.{good_halves}
 use Rattle.questions.proofs.References.{read_named, read_past}
-use borrow.Author.Rules.{rules}
 use Rattle.questions.proofs.member.row_member.Goals as goal
 
 pub returns-then-good_later_words : goal.returns-then-good_later_words

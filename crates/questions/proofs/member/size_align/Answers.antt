@@ -4,7 +4,6 @@ use borrow.Author.Tests.{lt-leb}
 use Rattle.canon.specs.Answer.{at_position, unless}
 use Rattle.canon.specs.Question.{read}
 use Rattle.questions.proofs.Memos.{size_align_is}
-use borrow.Author.Rules.{rules}
 use Rattle.questions.proofs.member.size_align.Goals as goal
 
 pub returns-then-no_table : goal.returns-then-no_table

@@ -4,7 +4,6 @@ use Rattle.canon.specs.Answer.{at_position, and_then}
 use Rattle.canon.specs.Question.{read_row}
 use Rattle.table.proofs.Reading.{good_halves}
 use Rattle.questions.proofs.References.{read_named, read_past}
-use borrow.Author.Rules.{rules}
 use Rattle.questions.proofs.member.size_align_of_row.Goals as goal
 
 pub returns-then-good_later_words : goal.returns-then-good_later_words

@@ -1,12 +1,9 @@
 -- The loop's invariant: the first i words are halves of the stage, the others as they were (`copy_turn`).
-use Prim.Native.Nat.{◌-◌, ◌≤◌}
-use mathlib.Core.Path.{◌≡◌, refl}
-use mathlib.Core.List.{◌++◌}
+use mathlib.Core.Path.{refl}
 use native.Mathlib.Omega.{arith}
 use native.Mathlib.Nat.{le_antisymm}
-use lib.ListN.{length, take, drop, length-set}
+use lib.ListN.{length-set}
 use borrow.Author.Rules.{rules}
-use Rattle.questions.specs.Means.{halves}
 use Rattle.questions.proofs.Memos.{copy_turn}
 use Rattle.questions.proofs.placing.copy.Goals as goal
 

@@ -1,15 +1,15 @@
 -- The loop's invariant: these infos have been read, the members stand as canon places them, and the rows read back are counted (`goes_on`, `stands_more`, `rows_next`).
-use mathlib.Core.Path.{◌≡◌, refl, sym, ap, ap₂, ◌∙◌}
-use mathlib.Core.List.{List, [], ◌∷◌, ◌++◌}
-use Prim.Native.Nat.{ℕ, ◌-◌, ◌≤◌}
+use mathlib.Core.Path.{refl, sym, ap, ap₂, ◌∙◌}
+use mathlib.Core.List.{[], ◌∷◌, ◌++◌}
+use Prim.Native.Nat.{ℕ}
 use native.Mathlib.Nat.{le_antisymm}
 use native.Mathlib.Omega.{arith}
-use lib.ListN.{length, get_or, take, length-take, length-set}
+use lib.ListN.{get_or, take, length-take, length-set}
 use lib.Seq.{take_all}
 use borrow.Author.Rules.{rules}
 use Rattle.canon.specs.Answer.{Answer, then}
 use Rattle.canon.specs.Layout.{Layout, starts}
-use Rattle.canon.specs.Row.{Info, info_layout}
+use Rattle.canon.specs.Row.{info_layout}
 use Rattle.canon.specs.Question.{read, layouts_in}
 use Rattle.canon.specs.Cost.{rows_among, reported}
 use Rattle.canon.specs.Gaps.{gaps}
@@ -17,11 +17,10 @@ use Rattle.canon.proofs.Costs.{rows_among_most, rows_next}
 use Rattle.canon.proofs.Questions.{read_aligned}
 use Rattle.canon.proofs.Tests.{impossible}
 use Rattle.types.specs.Means.{memory_of, number_of, layout_means}
-use Rattle.questions.specs.Means.{member_means, halves}
-use Rattle.questions.specs.declared.pair.Half.TheVariants.{Low, High}
+use Rattle.questions.specs.Means.{member_means}
 use Rattle.questions.specs.Steps.{next_place}
-use Rattle.questions.proofs.References.{part_is, Read, begins, goes_on, stops, ends}
-use Rattle.questions.proofs.Members.{layouts_more, Stands, Staged, nothing_stands, stands_more, staged_more, finish_is, placed_starts}
+use Rattle.questions.proofs.References.{part_is, begins, goes_on, stops, ends}
+use Rattle.questions.proofs.Members.{layouts_more, nothing_stands, stands_more, staged_more, finish_is, placed_starts}
 use Rattle.questions.proofs.placing.fill.Goals as goal
 
 pub loop-k-init : goal.loop-k-init
@@ -78,7 +77,7 @@ loop-k-preserved c =
     let done = l.invariant.2.0 in
     let f = layout_means c.in-Layout.layout in
     let reading = c.read_member.ensures in
-    let r = part_is (info_layout m) (look w) f (sym (ap member_means c.in-Layout.is) ∙ reading.0) in
+    let r = part_is (info_layout m) (look w) f (sym (ap member_means c.in-Layout.is) ∙ reading.result_value) in
     let next = c.next-placed in
     let q = next.ensures ∙ ap (λ (x : Layout). next_place l.placed x (record { 0 = l.k })) (sym r.2) in
     let al = read_aligned m a.table.now a.n w r.0 r.1 in (
@@ -91,7 +90,7 @@ loop-k-preserved c =
         rw (layouts_more m done r.0, c.pair.ensures)
             (staged_more l.placed (layouts_in m done) l.k l.invariant.2.2 (info_layout m r.0) al next.result q l.stage l.invariant.2.3 (omega (arith, test, l.invariant.1, p.2))),
       ),
-      omega (arith, l.invariant.3, rw c.in-Layout.is at reading.1, rows_next a.references.now l.k test),
+      omega (arith, l.invariant.3, rw c.in-Layout.is at reading.member_reads, rows_next a.references.now l.k test),
     )
 
 pub returns : goal.returns

@@ -1,17 +1,17 @@
 -- The loop's invariant: these infos have been read, the members stand as canon places them, the memo has what was read, and the rows read back are
 -- counted (`goes_on`, `stands_more`, `Recalled`, `rows_next`).
-use mathlib.Core.Path.{◌≡◌, refl, sym, ap, ap₂, ◌∙◌}
-use mathlib.Core.List.{List, [], ◌∷◌, ◌++◌}
-use Prim.Native.Nat.{ℕ, ◌-◌, ◌≤◌, ◌<◌}
+use mathlib.Core.Path.{refl, sym, ap, ap₂, ◌∙◌}
+use mathlib.Core.List.{[], ◌∷◌, ◌++◌}
+use Prim.Native.Nat.{ℕ}
 use native.Mathlib.Nat.{le_antisymm}
 use native.Mathlib.Omega.{arith}
-use lib.ListN.{length, get_or, take, length-take}
+use lib.ListN.{get_or, take, length-take}
 use lib.Seq.{take_all}
 use borrow.Author.Count.{below_more}
 use borrow.Author.Rules.{rules}
 use Rattle.canon.specs.Answer.{Answer, then}
 use Rattle.canon.specs.Layout.{Layout}
-use Rattle.canon.specs.Row.{Info, info_layout}
+use Rattle.canon.specs.Row.{info_layout}
 use Rattle.canon.specs.Question.{read, layouts_in}
 use Rattle.canon.specs.Cost.{rows_among, reported}
 use Rattle.canon.proofs.Costs.{rows_among_most, rows_next}
@@ -19,9 +19,9 @@ use Rattle.canon.proofs.Questions.{read_aligned}
 use Rattle.canon.proofs.Tests.{impossible}
 use Rattle.types.specs.Means.{memory_of, number_of, layout_means}
 use Rattle.questions.specs.Means.{member_means}
-use Rattle.questions.specs.Steps.{member_layout, next_place, Remembers}
-use Rattle.questions.proofs.References.{part_is, Read, begins, goes_on, stops, ends}
-use Rattle.questions.proofs.Members.{layouts_more, Stands, nothing_stands, stands_more, finish_is, placed_starts}
+use Rattle.questions.specs.Steps.{next_place}
+use Rattle.questions.proofs.References.{part_is, begins, goes_on, stops, ends}
+use Rattle.questions.proofs.Members.{layouts_more, nothing_stands, stands_more, finish_is, placed_starts}
 use Rattle.questions.proofs.Memos.{known_all}
 use Rattle.questions.proofs.placing.judge.Goals as goal
 
@@ -76,7 +76,7 @@ loop-k-preserved c = let a = c.args in
     let done = l.invariant.2.0 in
     let f = layout_means c.in-Layout.layout in
     let rc = c.recall in
-    let r = part_is (info_layout m) (look w) f (sym (ap member_means c.in-Layout.is) ∙ rc.ensures.0) in
+    let r = part_is (info_layout m) (look w) f (sym (ap member_means c.in-Layout.is) ∙ rc.ensures.result_value) in
     let q = c.next-placed.ensures ∙ ap (λ (x : Layout). next_place l.placed x (record { 0 = l.k })) (sym r.2) in
     let al = read_aligned m a.table.now a.n w r.0 r.1 in (
       search rules,
@@ -86,9 +86,9 @@ loop-k-preserved c = let a = c.args in
         goes_on look a.references.now l.k done r.0 l.invariant.2.1 r.1 test,
         rw (layouts_more m done r.0) (stands_more l.placed (layouts_in m done) l.k l.invariant.2.2 (info_layout m r.0) al c.next-placed.result q),
       ),
-      rc.ensures.1.1.holds,
-      below_more _ _ (λ j h. rc.ensures.1.1.keeps _ (l.invariant.4 j h)) (rc.ensures.1.1.found f (sym rc.ensures.0 ∙ ap member_means c.in-Layout.is)),
-      omega (arith, l.invariant.5, rw c.in-Layout.is at rc.ensures.1.0, rows_next a.references.now l.k test),
+      rc.ensures.recalled.holds,
+      below_more _ _ (λ j h. rc.ensures.recalled.keeps _ (l.invariant.4 j h)) (rc.ensures.recalled.found f (sym rc.ensures.result_value ∙ ap member_means c.in-Layout.is)),
+      omega (arith, l.invariant.5, rw c.in-Layout.is at rc.ensures.member_reads, rows_next a.references.now l.k test),
     )
 
 pub returns : goal.returns

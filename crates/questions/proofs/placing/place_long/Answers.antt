@@ -20,23 +20,23 @@ judge-requires c =
 pub write-requires : goal.write-requires
 write-requires c =
     let f = c.judge in
-    let p = answered _ _ (rw c.in-Whole.is at f.ensures.0).answer in
-    let r = f.ensures.1 p.0 p.1 in
+    let p = answered _ _ (rw c.in-Whole.is at f.ensures.answers).answer in
+    let r = f.ensures.ready p.0 p.1 in
     (c.requires.1, search rules, search rules, search rules, r.all)
 
 pub returns-in-Whole : goal.returns-in-Whole
 returns-in-Whole c =
     let f = c.judge in
     let refs = c.args.references.now in
-    let answers = rw c.in-Whole.is at f.ensures.0 in
+    let answers = rw c.in-Whole.is at f.ensures.answers in
     let p = answered _ _ answers.answer in
-    let ready = f.ensures.1 p.0 p.1 in
-    let fs = known f.new.1.1.1.1.0 refs in
+    let ready = f.ensures.ready p.0 p.1 in
+    let fs = known f.new.memo refs in
     let written-by = c.write.ensures in
     record {
       answers = answers;
-      offsets = written offsets_of _ p.0 (starts 0 fs) _ _ (length refs) p.1 ready.offsets (starts_length 0 fs ∙ length-map refs _) written-by.0;
-      gaps = written gaps_of _ p.0 (canon_gaps.gaps 0 fs) _ _ (length refs) p.1 ready.gaps (gaps_length 0 fs ∙ length-map refs _) written-by.1;
+      offsets = written offsets_of _ p.0 (starts 0 fs) _ _ (length refs) p.1 ready.offsets (starts_length 0 fs ∙ length-map refs _) written-by.out_after;
+      gaps = written gaps_of _ p.0 (canon_gaps.gaps 0 fs) _ _ (length refs) p.1 ready.gaps (gaps_length 0 fs ∙ length-map refs _) written-by.gaps_after;
     }
 
 pub returns-in-Refused : goal.returns-in-Refused

@@ -12,11 +12,11 @@ use Rattle.questions.proofs.placing.place_staged.Goals as goal
 pub returns-in-Whole : goal.returns-in-Whole
 returns-in-Whole c =
     let f = c.fill in
-    let stage = f.new.1.1.1.1.0 in
+    let stage = f.new.stage in
     let n = length c.args.references.now in
-    let answers = rw c.in-Whole.is at f.ensures.0 in
+    let answers = rw c.in-Whole.is at f.ensures.answers in
     let p = answered _ _ answers.answer in
-    let pairs = f.ensures.1 p.0 p.1 in
+    let pairs = f.ensures.pairs p.0 p.1 in
     let all = length-take-le n stage (search rules) in
     record {
       answers = answers;

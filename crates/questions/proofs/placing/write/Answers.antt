@@ -1,15 +1,14 @@
 -- The loop's invariant: the offsets and gaps of the references so far stand before the words that were there (`write_turn`).
 use mathlib.Core.Path.{◌≡◌, refl, ap, ◌∙◌}
-use mathlib.Core.List.{List, [], ◌∷◌, ◌++◌}
-use Prim.Native.Nat.{ℕ, ◌-◌, ◌≤◌}
+use mathlib.Core.List.{[], ◌∷◌, ◌++◌}
 use native.Mathlib.Nat.{le_antisymm, le_refl}
 use native.Mathlib.Omega.{arith}
-use lib.ListN.{length, get_or, take, drop, length-set, length-append, length-map}
+use lib.ListN.{length, get_or, take, length-set, length-append, length-map}
 use lib.Seq.{take_all}
 use Rattle.canon.specs.Layout.{Layout, starts}
 use Rattle.canon.specs.Gaps as canon_gaps
 use Rattle.questions.specs.Steps.{memo_layout, known, next_place}
-use Rattle.questions.proofs.Members.{Stands, Staged, nothing_stands, stands_more, staged_last}
+use Rattle.questions.proofs.Members.{nothing_stands, stands_more, staged_last}
 use Rattle.questions.proofs.Memos.{known_more, known_aligned, there_below, write_turn}
 use borrow.Author.Rules.{rules}
 use Rattle.questions.proofs.placing.write.Goals as goal
@@ -17,9 +16,6 @@ use Rattle.questions.proofs.placing.write.Goals as goal
 pub loop-k-init : goal.loop-k-init
 unfolding starts canon_gaps.gaps
 loop-k-init c = (search rules, refl, refl, nothing_stands, ([], [], refl, refl, refl, refl, λ h. (refl, refl)))
-
-pub overflow_cast-word : goal.overflow_cast-word
-overflow_cast-word c = omega (arith, c.shared_slice_known-in-loop-k-1.given c.loop-k.k)
 
 pub offset_bounds-memo-references : goal.offset_bounds-memo-references
 offset_bounds-memo-references c = let l = c.loop-k in

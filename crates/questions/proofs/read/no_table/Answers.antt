@@ -3,7 +3,6 @@ use mathlib.Core.Path.{ap}
 use Prim.Native.Nat.{ℕ}
 use lib.Dec.{ltb}
 use Rattle.canon.specs.Question.{no_table}
-use borrow.Author.Rules.{rules}
 use Rattle.questions.proofs.read.no_table.Goals as goal
 
 pub returns : goal.returns

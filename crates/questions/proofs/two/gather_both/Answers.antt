@@ -5,13 +5,12 @@ use Rattle.canon.specs.Answer.{then}
 use Rattle.types.specs.Means.{memory_of}
 use Rattle.questions.specs.Means.{gathered_means}
 use Rattle.questions.proofs.Positions.{together_below, two_gathered}
-use borrow.Author.Rules.{rules}
 use Rattle.questions.proofs.two.gather_both.Goals as goal
 
 pub overflow_add-result : goal.overflow_add-result
 overflow_add-result c =
     let a = c.args in
-    omega (arith, together_below (memory_of a.second_memory) a.table.now a.n a.second.now _ _ (sym (ap gathered_means c.in-Refused-gather_all.is) ∙ c.gather_all-in-All.ensures))
+    omega (arith, together_below (memory_of a.second_memory) a.table.now a.n _ _ _ (sym (ap gathered_means c.in-Refused-gather_all.is) ∙ c.gather_all-in-All.ensures))
 
 pub returns-in-All-gather_all : goal.returns-in-All-gather_all
 unfolding then

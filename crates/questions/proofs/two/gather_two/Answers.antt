@@ -3,7 +3,6 @@ use mathlib.Core.Path.{sym, ◌∙◌}
 use borrow.Author.Tests.{ltb-false}
 use Rattle.canon.specs.Answer.{unless}
 use Rattle.canon.specs.Question.{ask_two}
-use borrow.Author.Rules.{rules}
 use Rattle.questions.proofs.two.gather_two.Goals as goal
 
 pub returns-then-too_many : goal.returns-then-too_many

@@ -1,5 +1,4 @@
 -- One list behind the other, and the borrow of either.
-use borrow.Author.Rules.{rules}
 use Rattle.questions.proofs.list.Gathering.with.Goals as goal
 
 pub returns-then-self : goal.returns-then-self

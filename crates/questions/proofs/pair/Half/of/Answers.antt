@@ -1,5 +1,4 @@
 -- Each half by its name.
-use borrow.Author.Rules.{rules}
 use Rattle.questions.proofs.pair.Half.of.Goals as goal
 
 pub returns-in-Low : goal.returns-in-Low

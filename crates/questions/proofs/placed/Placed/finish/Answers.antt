@@ -5,7 +5,6 @@ use borrow.Author.Tests.{ltb-false}
 use Rattle.canon.specs.Answer.{then}
 use Rattle.canon.specs.Layout.{largest_number}
 use Rattle.questions.specs.Steps.{finished, finished_gap}
-use borrow.Author.Rules.{rules}
 use Rattle.questions.proofs.placed.Placed.finish.Goals as goal
 
 pub returns-then-is_large : goal.returns-then-is_large

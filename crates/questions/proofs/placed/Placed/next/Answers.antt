@@ -1,6 +1,5 @@
 -- The step, and which member is remembered.
 use Rattle.questions.specs.Steps.{next_place}
-use borrow.Author.Rules.{rules}
 use Rattle.questions.proofs.placed.Placed.next.Goals as goal
 
 pub returns-then-is_large : goal.returns-then-is_large
