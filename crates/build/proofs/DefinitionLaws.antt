@@ -88,7 +88,7 @@ pub references_behind_lem :
 references_behind_lem ws at h e =
     let g = headed ws at h e in
     head_references ws at h e
-    ∙ rw (g.known, get_or-drop (at + 1) ws 0 0, add-zero (at + 1), ap (λ (x : Heading). x.count) g.is-heading)
+    ∙ rw (g.known, get_or-drop (at + 1) ws 0 0, add-zero (at + 1), ap (λ (x : Heading). x.count) g.is_heading)
 
 -- A definition moves on
 

@@ -8,7 +8,7 @@ use mathlib.Core.Option.{some}
 use Prim.Native.Nat.{ℕ, suc, ◌+◌, ◌≤◌, ◌<◌}
 use lib.ListN.{length, take, get_elem?}
 use contract.Lifetimes.{Lfts}
-use denote.Ref.{MutBor, at_last}
+use denote.Ref.{Bor, MutBor, at_last}
 use Rattle.canon.specs.Answer.{Answer, ok, refused, too_large, too_deep}
 use Rattle.canon.specs.Cost.{rows_read, reported, build_reads}
 use Rattle.canon.specs.Types.{Ty, Members, Kind}
@@ -40,7 +40,7 @@ accepted_deep : (u : Ty) → Accepted u → Deep (word (row_of u) 15) u
 unfolding row_of
 accepted_deep u a = record { told = refl; deep = definition_deep u a.definition; shallow = a.shallow }
 
-module _ (κs : Lfts 2) (ws t : MutBor (List ℕ)) (r : Built) (l : List ℕ) (promise : build.Post κs (ws, (t, tt)) r (ws, (at_last t l, tt))) where
+module _ (κs : Lfts 2) (ws : Bor (List ℕ)) (t : MutBor (List ℕ)) (r : Built) (l : List ℕ) (promise : build.Post κs (ws, (t, tt)) r (ws, (at_last t l, tt))) where
   -- 6 at i exactly when the definition i, which the build comes to, passes every earlier check and is too large for the 64-bit memory: never on account of the 32-bit memory alone
   pub large_at :
       (i : ℕ) →

@@ -3,7 +3,7 @@ use mathlib.Core.Path.{◌≡◌, refl, sym, ap, ap₂, ◌∙◌}
 use mathlib.Core.List.{List}
 use Prim.Native.Nat.{ℕ}
 use contract.Lifetimes.{Lfts}
-use denote.Ref.{MutBor, at_last}
+use denote.Ref.{Bor, MutBor, at_last}
 use Rattle.canon.specs.Answer.{Answer, ok, refused}
 use Rattle.types.proofs.Told.{refusal_of, refusal_back}
 use Rattle.types.specs.declared.refusal.Refusal.{Refusal}
@@ -23,7 +23,7 @@ back_again (built.Rows n reads) = refl
 back_again (built.Refused x i) = ap (λ (y : Refusal). built.Refused y i) (refusal_back x)
 
 pub build_one :
-    (κs : Lfts 2) (ws t : MutBor (List ℕ)) (r q : Built) (l k : List ℕ) →
+    (κs : Lfts 2) (ws : Bor (List ℕ)) (t : MutBor (List ℕ)) (r q : Built) (l k : List ℕ) →
     build.Post κs (ws, (t, tt)) r (ws, (at_last t l, tt)) →
     build.Post κs (ws, (t, tt)) q (ws, (at_last t k, tt)) →
     (r ≡ q) × (l ≡ k)

@@ -3,10 +3,9 @@
 
 ghost use Rattle.std.specs.Prelude.{◌≤◌, length, IfOk};
 
+use listing::{INPUT_BYTES, MOST_BYTES};
 use std::io;
 use std::io::{Input, Print, Read};
-
-use listing::{INPUT_BYTES, MOST_BYTES};
 
 // Reads until `bytes` is full or the input ends, and answers how many bytes were read.
 fn read_full<R: Read>(input: &mut R, bytes: &mut [u8]) -> io::Result<usize>

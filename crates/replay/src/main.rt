@@ -7,8 +7,11 @@
 // and every other kind, a question about the table before it, is passed over.
 #![tactic(auto)]
 
+ghost use Rattle.std.specs.Prelude.{◌≤◌, length, IfOk};
+
 use build::{Built, MAX_BYTES, MAX_WORDS, build};
-use libc::{STDIN_FILENO, STDOUT_FILENO};
+use std::io;
+use std::io::{Input, Print, Read};
 use table::{ROW_WORDS, TABLE_WORDS, capacity};
 use words::words_of;
 
@@ -157,14 +160,29 @@ fn replay(words: &[u32]) -> Tally {
     }
 }
 
-fn main() {
+// Reads until `bytes` is full or the input ends, and answers how many bytes were read.
+fn read_full<R: Read>(input: &mut R, bytes: &mut [u8]) -> io::Result<usize>
+    ensures { IfOk result (λ n. n ≤ length bytes.new) }
+{
+    let mut count: usize = 0;
+    while count < bytes.len() {
+        let read = input.read(&mut bytes[count..])?;
+        if read == 0 {
+            break;
+        }
+        count += read;
+    }
+    Ok(count)
+}
+
+fn main(rt: HostRuntime) -> io::Result<()> {
     let mut bytes = [0u8; MAX_BYTES];
-    let count = io::read_full(STDIN_FILENO, &mut bytes);
+    let count = read_full(&mut rt.reader(), &mut bytes)?;
     let mut words = [0u32; MAX_WORDS];
     let whole = words_of(&bytes[..count], &mut words);
     let tally = replay(&words[..whole]);
-    io::print_decimal(STDOUT_FILENO, tally.compared as u64);
-    io::write_all(STDOUT_FILENO, b" compared\n");
-    io::print_decimal(STDOUT_FILENO, tally.different as u64);
-    io::write_all(STDOUT_FILENO, b" differ\n");
+    let compared = tally.compared;
+    let different = tally.different;
+    println!(rt; "{compared} compared")?;
+    println!(rt; "{different} differ")
 }

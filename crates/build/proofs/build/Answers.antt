@@ -1,15 +1,14 @@
 -- The loop's invariant is `Running`: canon's own recursion, with the rows so far in the table. Each way out is a law of it.
 use mathlib.Core.Path.{sym, ap, ◌∙◌}
-use Prim.Native.Nat.{◌+◌, ◌-◌}
+use Prim.Native.Nat.{◌+◌}
 use native.Mathlib.Omega.{arith}
 use lib.ListN.{length, get_or, drop, length-drop}
-use borrow.Author.Rules.{rules}
 use Rattle.canon.specs.Description.{kind_of}
 use Rattle.canon.proofs.Cells.{room_fits}
 use Rattle.canon.proofs.Costs.{behind_most}
 use Rattle.build.specs.Means.{defined_means}
 use Rattle.build.proofs.DefinitionLaws.{moves_on}
-use Rattle.build.proofs.RunLaws.{Running, too_long_lem, begins, same_length as same-length-of, running_most, all_read, ends, no_room_lem, stops, goes_on}
+use Rattle.build.proofs.RunLaws.{too_long_lem, begins, same_length as same_length_of, running_most, all_read, ends, no_room_lem, stops, goes_on}
 use Rattle.build.proofs.build.Goals as goal
 
 pub returns-then-words-gt-MAX_WORDS : goal.returns-then-words-gt-MAX_WORDS
@@ -22,7 +21,7 @@ pub loop-at-init : goal.loop-at-init
 loop-at-init c = let a = c.args in begins a.words.now a.table.now
 
 pub shape_of-table-then-room-rows : goal.shape_of-table-then-room-rows
-shape_of-table-then-room-rows c = same-length-of c.loop-at.invariant
+shape_of-table-then-room-rows c = same_length_of c.loop-at.invariant
 
 pub returns-then-room-rows : goal.returns-then-room-rows
 returns-then-room-rows c =
@@ -39,7 +38,7 @@ define-requires c =
     )
 
 pub shape_of-table-in-Refused : goal.shape_of-table-in-Refused
-shape_of-table-in-Refused c = same-length-of c.loop-at.invariant
+shape_of-table-in-Refused c = same_length_of c.loop-at.invariant
 
 pub returns-in-Refused : goal.returns-in-Refused
 returns-in-Refused c = let room = c.capacity-room.ensures in
@@ -70,7 +69,7 @@ loop-at-preserved c = let l = c.loop-at in
     rw c.put_row.ensures (goes_on l.invariant _ _ told (rw c.in-Row.is at c.define.ensures.defined_reads) c.loop-at-test.true (omega (arith, c.if-room-rows.false)))
 
 pub shape_of-table : goal.shape_of-table
-shape_of-table c = same-length-of c.loop-at.invariant
+shape_of-table c = same_length_of c.loop-at.invariant
 
 pub returns : goal.returns
 returns c =

@@ -1,5 +1,4 @@
 -- By whether the build was refused: the rows before the index were made.
-use borrow.Author.Rules.{rules}
 use Rattle.build.proofs.Built.accepted.Goals as goal
 
 pub returns-in-Rows : goal.returns-in-Rows

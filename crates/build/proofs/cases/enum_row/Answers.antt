@@ -1,7 +1,6 @@
 -- No case is refused; else no payloads.
 use Rattle.canon.specs.Answer.{and_then}
 use Rattle.build.specs.Kinds.{enum_row}
-use borrow.Author.Rules.{rules}
 use Rattle.build.proofs.cases.enum_row.Goals as goal
 
 pub returns-in-Refused : goal.returns-in-Refused

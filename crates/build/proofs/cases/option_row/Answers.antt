@@ -1,5 +1,4 @@
 -- A bad reference, or one payload.
-use borrow.Author.Rules.{rules}
 use Rattle.canon.specs.Answer.{and_then}
 use Rattle.build.specs.Kinds.{option_row}
 use Rattle.build.proofs.Wording.{if_row_holds}

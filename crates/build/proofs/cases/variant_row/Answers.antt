@@ -8,7 +8,6 @@ use Rattle.types.specs.Means.{bytes_of, discriminant_means}
 use Rattle.head.proofs.Laws.{between_length}
 use Rattle.build.specs.Kinds.{variant_row}
 use Rattle.build.proofs.Wording.{then_is}
-use borrow.Author.Rules.{rules}
 use Rattle.build.proofs.cases.variant_row.Goals as goal
 
 pub returns-in-Refused : goal.returns-in-Refused

@@ -7,7 +7,6 @@ use Rattle.head.specs.Means.{head_means}
 use Rattle.head.proofs.Laws.{head_spans}
 use Rattle.build.specs.Kinds.{defined_at}
 use Rattle.build.proofs.DefinitionLaws.{references_behind_lem}
-use borrow.Author.Rules.{rules}
 use Rattle.build.proofs.define.define.Goals as goal
 
 pub kind_row-made-requires : goal.kind_row-made-requires

@@ -8,7 +8,6 @@ use Rattle.build.specs.Steps.{member_look}
 use Rattle.build.proofs.Arms.{members_arm, cases_arm}
 use Rattle.build.proofs.Folding.{none_between, one_between, two_between}
 use Rattle.build.proofs.Wording.{if_row_holds}
-use borrow.Author.Rules.{rules}
 use Rattle.build.proofs.define.kind_row.Goals as goal
 
 pub list_row-requires : goal.list_row-requires
@@ -42,14 +41,14 @@ fixed_row-requires c =
 pub returns-in-Record : goal.returns-in-Record
 returns-in-Record c = let a = c.args in record {
   rowed_value = rw c.kind_word.ensures at c.members_row.ensures.rowed_value
-      ∙ members_arm (member_look a.table.now a.index.0) a.words.now a.heading.count a.heading.first a.heading.end a.heading.kind c.in-Record.keys1;
+      ∙ members_arm (member_look a.table.now a.index.0) a.words.now a.heading.count a.heading.first a.heading.end a.heading.kind c.in-Record.is;
   made_reads = c.members_row.ensures.made_reads;
 }
 
 pub returns-in-Variant : goal.returns-in-Variant
 returns-in-Variant c = let a = c.args in record {
   rowed_value = rw c.kind_word-in-Variant.ensures at c.variant_row.ensures.rowed_value
-      ∙ cases_arm (member_look a.table.now a.index.0) a.words.now a.heading.count a.heading.first a.heading.end a.heading.kind c.in-Variant.keys2;
+      ∙ cases_arm (member_look a.table.now a.index.0) a.words.now a.heading.count a.heading.first a.heading.end a.heading.kind c.in-Variant.is;
   made_reads = c.variant_row.ensures.made_reads;
 }
 

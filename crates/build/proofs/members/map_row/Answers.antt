@@ -3,7 +3,6 @@ use mathlib.Core.List.{[], ◌∷◌}
 use Prim.Native.Nat.{◌+◌}
 use native.Mathlib.Omega.{arith}
 use lib.ListN.{get_or}
-use borrow.Author.Rules.{rules}
 use Rattle.canon.specs.Answer.{and_then}
 use Rattle.canon.proofs.Costs.{rows_among_most, rows_append}
 use Rattle.build.specs.Kinds.{map_row}

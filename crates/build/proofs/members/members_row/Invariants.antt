@@ -1,17 +1,11 @@
 -- The loop: what is left of the references, from the state so far, gives the whole, and so do the rows read back (Folding).
-use mathlib.Core.Path.{◌≡◌, sym, ◌∙◌}
-use mathlib.Core.List.{[], ◌∷◌}
+use mathlib.Core.Path.{◌≡◌}
 use Prim.Native.Nat.{◌+◌, ◌-◌, ◌≤◌}
-use native.Mathlib.Omega.{arith}
-use lib.ListN.{length, get_or}
-use borrow.Author.Rules.{rules}
+use lib.ListN.{length}
 use Rattle.canon.specs.Cost.{rows_among}
-use Rattle.canon.proofs.Costs.{rows_among_most}
 use Rattle.head.specs.Heads.{between}
 use Rattle.build.specs.Means.{members_means}
 use Rattle.build.specs.Steps.{fold_refs, member_look, no_members, add_member, members_row}
-use Rattle.build.proofs.Folding.{turn, stop, over, reads_turn, reads_over, between_most}
-use Rattle.build.proofs.Wording.{one, none_found, if_row_holds}
 use Rattle.build.proofs.members.members_row.Given as goal
 
 abbrev pub invariant-loop-at : goal.invariant-loop-at

@@ -4,7 +4,6 @@ use borrow.Author.Tests.{eq-eqb, ne_eqb}
 use Rattle.canon.specs.Answer.{and_then}
 use Rattle.canon.proofs.Costs.{mark_unread}
 use Rattle.build.specs.Steps.{case_look}
-use borrow.Author.Rules.{rules}
 use Rattle.build.proofs.reference.case_at.Goals as goal
 
 pub returns-then-reference-eq-NO_PAYLOAD : goal.returns-then-reference-eq-NO_PAYLOAD

@@ -5,7 +5,6 @@ use Rattle.canon.specs.Answer.{is}
 use Rattle.canon.proofs.Costs.{plain_unread, earlier_read}
 use Rattle.table.specs.Means.{found_means}
 use Rattle.build.specs.Steps.{member_look}
-use borrow.Author.Rules.{rules}
 use Rattle.build.proofs.reference.member_at.Goals as goal
 
 pub returns-in-Info : goal.returns-in-Info

@@ -1,7 +1,6 @@
 -- Refused, or the words of the two layouts and the reach.
 use Rattle.canon.specs.Answer.{and_then}
 use Rattle.build.specs.Steps.{fit_row}
-use borrow.Author.Rules.{rules}
 use Rattle.build.proofs.row.fit_row.Goals as goal
 
 pub returns-in-Refused : goal.returns-in-Refused

@@ -1,5 +1,4 @@
 -- The numbers are a pair's constants.
-use borrow.Author.Rules.{rules}
 use Rattle.build.proofs.row.pair_row.Goals as goal
 
 pub returns : goal.returns

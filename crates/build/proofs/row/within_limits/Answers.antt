@@ -1,7 +1,6 @@
 -- Too deep, too large, or the two layouts and the reach.
 use Rattle.canon.specs.Answer.{and_then}
 use Rattle.build.specs.Steps.{limited_of}
-use borrow.Author.Rules.{rules}
 use Rattle.build.proofs.row.within_limits.Goals as goal
 
 pub returns-in-TooDeep : goal.returns-in-TooDeep

@@ -2,7 +2,6 @@
 use mathlib.Core.Path.{◌≡◌, refl, sym, ap, ◌∙◌}
 use Prim.Native.Nat.{◌+◌, ◌*◌}
 use lib.ListN.{get_or}
-use borrow.Author.Rules.{rules}
 use Rattle.canon.specs.Answer.{map_option, and_then}
 use Rattle.canon.specs.Layout.{Memory, mem32, mem64, both}
 use Rattle.canon.specs.Flat.{copies}

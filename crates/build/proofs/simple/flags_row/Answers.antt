@@ -9,7 +9,6 @@ use Rattle.build.specs.Steps.{pair_of}
 use Rattle.build.proofs.Wording.{then_is}
 use Rattle.build.specs.Kinds.{flags_row}
 use mathlib.Core.Path.{sym, ap, ◌∙◌}
-use borrow.Author.Rules.{rules}
 use Rattle.build.proofs.simple.flags_row.Goals as goal
 
 pub returns-in-Refused : goal.returns-in-Refused

@@ -1,7 +1,6 @@
 -- Too deep, or a pointer pair.
 use Rattle.canon.specs.Answer.{and_then}
 use Rattle.build.specs.Kinds.{list_row}
-use borrow.Author.Rules.{rules}
 use Rattle.build.proofs.simple.list_of.Goals as goal
 
 pub returns-in-TooDeep : goal.returns-in-TooDeep

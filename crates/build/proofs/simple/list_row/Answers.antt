@@ -1,7 +1,6 @@
 -- A bad reference, or the row of a list of what it names.
 use Rattle.canon.specs.Answer.{and_then}
 use Rattle.build.proofs.Wording.{if_row_holds}
-use borrow.Author.Rules.{rules}
 use Rattle.build.proofs.simple.list_row.Goals as goal
 
 pub returns-in-BadRef : goal.returns-in-BadRef

@@ -43,19 +43,17 @@ pub overflow_mul-result : goal.overflow_mul-result
 overflow_mul-result c = omega (arith, div-mul-le_self c.args.a c.unit_of-unit.result, c.requires)
 
 pub overflow_add-result : goal.overflow_add-result
-overflow_add-result c = omega (arith, rest_below c.args.b _ c.args.a c.unit_of-unit.ensures, skipped_below c, (unit_is c.args.b _ c.unit_of-unit.ensures).1)
+overflow_add-result c =
+    let u = unit_is c.args.b _ c.unit_of-unit.ensures in
+    let r = rest_below c.args.b _ c.args.a c.unit_of-unit.ensures in
+    elim c.if-rest-eq0.branch [ then-rest-eq0 w ↦ omega (arith, u, r) | else-rest-eq0 w ↦ omega (arith, u, r) ]
 
 pub overflow_add-result-2 : goal.overflow_add-result-2
 overflow_add-result-2 c =
-    let a = c.args.a in
-    omega (
-      arith,
-      div-mul-le_self a c.unit_of-unit.result,
-      rest_below c.args.b _ a c.unit_of-unit.ensures,
-      skipped_below c,
-      (unit_is c.args.b _ c.unit_of-unit.ensures).1,
-      c.requires,
-    )
+    let u = unit_is c.args.b _ c.unit_of-unit.ensures in
+    let r = rest_below c.args.b _ c.args.a c.unit_of-unit.ensures in
+    let whole = div-mul-le_self c.args.a c.unit_of-unit.result in
+    elim c.if-rest-eq0.branch [ then-rest-eq0 w ↦ omega (arith, u, r, whole, c.requires) | else-rest-eq0 w ↦ omega (arith, u, r, whole, c.requires) ]
 
 pub overflow_cast-result : goal.overflow_cast-result
 overflow_cast-result c = omega (arith, skipped_below c)

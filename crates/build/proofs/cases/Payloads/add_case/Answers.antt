@@ -1,7 +1,6 @@
 -- A bad reference, no payload, or one more.
 use Rattle.canon.specs.Answer.{and_then}
 use Rattle.build.specs.Steps.{add_if_payload}
-use borrow.Author.Rules.{rules}
 use Rattle.build.proofs.cases.Payloads.add_case.Goals as goal
 
 pub returns-in-BadRef : goal.returns-in-BadRef

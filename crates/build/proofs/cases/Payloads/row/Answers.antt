@@ -7,7 +7,6 @@ use Rattle.types.specs.declared.both.Steps.{Steps}
 use Rattle.types.proofs.VariantLaws.{variant_fits}
 use Rattle.build.specs.Steps.{pair_of, in_each, payloads_row}
 use Rattle.build.proofs.Wording.{fit_same}
-use borrow.Author.Rules.{rules}
 use Rattle.build.proofs.cases.Payloads.row.Goals as goal
 
 pub overflow_cast-inner : goal.overflow_cast-inner

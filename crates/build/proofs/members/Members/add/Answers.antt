@@ -11,7 +11,6 @@ use Rattle.flat_types.specs.Places.{append_to}
 use Rattle.table.specs.Means.{info_means, reach_means}
 use Rattle.build.specs.Steps.{info_flat, add_member}
 use Rattle.build.proofs.Wording.{flat_kept}
-use borrow.Author.Rules.{rules}
 use Rattle.build.proofs.members.Members.add.Goals as goal
 
 pub returns : goal.returns

@@ -1,6 +1,5 @@
 -- Both extents closed.
 use Rattle.build.specs.Steps.{members_row}
-use borrow.Author.Rules.{rules}
 use Rattle.build.proofs.members.Members.row.Goals as goal
 
 pub returns : goal.returns
