@@ -1,10 +1,10 @@
 -- All words are decoded, and as many go back.
-use mathlib.Core.Path.{sym, ap, ap₂, ◌∙◌}
+use mathlib.Core.Path.{ap, ap₂, ◌∙◌}
 use mathlib.Core.List.{List}
 use Prim.Native.Nat.{ℕ, ◌/◌}
 use native.Mathlib.Omega.{arith}
 use lib.ListN.{length}
-use lib.Seq.{length-take-le, take_all}
+use lib.Seq.{take_all}
 use borrow.Author.Rules.{rules}
 use Rattle.canon.specs.Description.{build_answer, table_after}
 use Rattle.canon.specs.Cost.{build_reads}
@@ -13,14 +13,6 @@ use Rattle.words.proofs.Laws.{length_whole}
 use Rattle.host.specs.Numbers.{build_number}
 use Rattle.host.proofs.Decoded.{front_all}
 use Rattle.host.proofs.build_bytes.build_long.Goals as goal
-
-pub slice_bounds-build_into-end : goal.slice_bounds-build_into-end
-slice_bounds-build_into-end c =
-    let w = c.words_of-count in
-    sym (length-take-le w.result w.new.words (search rules))
-
-pub slice_bounds-build_into-end-2 : goal.slice_bounds-build_into-end-2
-slice_bounds-build_into-end-2 c = let w = c.words_of-room in sym (length-take-le w.result w.new.words (search rules))
 
 pub returns : goal.returns
 returns c =

@@ -1,10 +1,9 @@
 -- All words are decoded, and the local table has the lent table's rows, at most 32 of them.
-use mathlib.Core.Path.{refl, sym, ap, ◌∙◌}
+use mathlib.Core.Path.{refl, ap, ◌∙◌}
 use mathlib.Core.List.{List}
 use Prim.Native.Nat.{ℕ}
 use native.Mathlib.Omega.{arith}
 use lib.ListN.{replicate, length-take}
-use lib.Seq.{length-take-le}
 use borrow.Author.Rules.{rules}
 use Rattle.canon.specs.Description.{build_answer, table_after}
 use Rattle.canon.specs.Cost.{build_reads}
@@ -13,14 +12,6 @@ use Rattle.host.specs.Numbers.{build_number}
 use Rattle.host.proofs.Builds.{local_room}
 use Rattle.host.proofs.Decoded.{front_all}
 use Rattle.host.proofs.build_bytes.build_short.Goals as goal
-
-pub slice_bounds-build_rows-end : goal.slice_bounds-build_rows-end
-slice_bounds-build_rows-end c = let w = c.words_of-count in sym (length-take-le w.result w.new.words (search rules))
-
-pub slice_bounds-build_rows-end-2 : goal.slice_bounds-build_rows-end-2
-slice_bounds-build_rows-end-2 c =
-    let r = c.local_words-room in
-    sym (length-take-le r.result (replicate 512 0) (omega (arith, r.ensures)))
 
 pub build_rows-requires : goal.build_rows-requires
 build_rows-requires c =

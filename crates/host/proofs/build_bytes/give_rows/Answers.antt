@@ -1,11 +1,8 @@
 -- The loop's invariant: the rows so far are given (`rows_turn`).
-use lib.ListN.{length}
-use mathlib.Core.Path.{◌≡◌, refl, sym, ap, ◌∙◌}
-use Prim.Native.Nat.{ℕ, ◌+◌, ◌-◌, ◌≤◌}
-use native.Mathlib.Nat.{le_antisymm}
+use mathlib.Core.Path.{refl, sym, ◌∙◌}
+use Prim.Native.Nat.{◌+◌}
 use native.Mathlib.Omega.{arith}
 use borrow.Author.Rules.{rules}
-use Rattle.words.specs.Words.{whole_words, put_words}
 use Rattle.words.proofs.Laws.{put_same}
 use Rattle.host.specs.Local.{with_rows}
 use Rattle.host.proofs.Builds.{rows_turn}
@@ -26,9 +23,3 @@ loop-i-preserved c =
           (λ i. search rules) l.i (l.i + 1) l.bytes gave.new.bytes (omega arith)
           l.invariant.2 gave.ensures,
     )
-
-pub returns : goal.returns
-returns c =
-    let a = c.args in
-    let l = c.loop-i in
-    l.invariant.2 ∙ ap (λ (n : ℕ). put_words 0 (with_rows a.table.now n (whole_words a.bytes.now)) a.bytes.now) (le_antisymm l.invariant.0 c.loop-i-test.false)

@@ -5,7 +5,6 @@ use Rattle.words.specs.Words.{whole_words}
 use Rattle.words.proofs.Laws.{length_whole}
 use Rattle.host.proofs.Picked.{names_kept}
 use Rattle.host.proofs.ShortLists.{room_32, question_missing, question_alike}
-use borrow.Author.Rules.{rules}
 use Rattle.host.proofs.question.ask_short.Goals as goal
 
 pub returns-then-no_rows : goal.returns-then-no_rows
@@ -22,12 +21,6 @@ pick_rows-firsts-requires c = (sym c.no_rows.ensures ∙ c.if-no_rows.false, rw 
 pub pick_rows-seconds-requires : goal.pick_rows-seconds-requires
 pick_rows-seconds-requires c =
     (sym c.no_rows.ensures ∙ c.if-no_rows.false, rw (c.pick_rows-firsts.ensures.keeps.size, room_32) (omega (arith, c.requires.1)), omega (arith, c.requires.1))
-
-pub slice_bounds-ask-end-2 : goal.slice_bounds-ask-end-2
-slice_bounds-ask-end-2 c = let w = c.pick_rows-firsts in w.ensures.value.0 ∙ sym (length_whole _) ∙ sym w.ensures.names.count
-
-pub slice_bounds-ask-end-3 : goal.slice_bounds-ask-end-3
-slice_bounds-ask-end-3 c = let w = c.pick_rows-seconds in w.ensures.value.0 ∙ sym (length_whole _) ∙ sym w.ensures.names.count
 
 pub returns : goal.returns
 returns c =

@@ -1,13 +1,8 @@
-use borrow.Author.Rules.{rules}
-use native.Mathlib.Nat.{sub-zero}
-use mathlib.Core.Path.{◌≡◌, refl, sym, ap, ◌∙◌}
-use mathlib.Core.List.{List}
-use Prim.Native.Nat.{ℕ, ◌-◌, ◌*◌, ◌≤◌}
-use Rattle.canon.specs.Row.{Abi}
+use mathlib.Core.Path.{◌≡◌}
+use Prim.Native.Nat.{◌-◌, ◌*◌, ◌≤◌}
 use Rattle.types.specs.States.{record_means, no_fields, add_fields}
 use Rattle.words.specs.Words.{whole_words}
 use Rattle.host.specs.Infos.{info_at, several}
-use Rattle.host.proofs.Several.{one_more_lem, no_more}
 use Rattle.host.proofs.records.fields_of_bytes.Given as goal
 
 abbrev pub invariant-loop-j : goal.invariant-loop-j

@@ -5,7 +5,6 @@ use Rattle.canon.specs.Answer.{then}
 use Rattle.canon.specs.Question.{size_align_answer}
 use Rattle.words.specs.Words.{whole_words}
 use Rattle.host.proofs.ShortLists.{room_1, type_missing, type_alike}
-use borrow.Author.Rules.{rules}
 use Rattle.host.proofs.table_bytes.lampughjata_size_align_bytes.Goals as goal
 
 pub returns-then-no_rows : goal.returns-then-no_rows

@@ -3,7 +3,6 @@ use mathlib.Core.Path.{sym, ◌∙◌}
 use native.Mathlib.Omega.{arith}
 use Rattle.words.specs.Words.{whole_words}
 use Rattle.host.proofs.ShortLists.{room_1, type_missing, type_alike}
-use borrow.Author.Rules.{rules}
 use Rattle.host.proofs.table_bytes.lampughjata_type_bytes.Goals as goal
 
 pub returns-then-no_rows : goal.returns-then-no_rows

@@ -4,7 +4,6 @@ use mathlib.Core.List.{List}
 use Prim.Native.Nat.{ℕ}
 use native.Mathlib.Omega.{arith}
 use lib.ListN.{length}
-use lib.Seq.{length-take-le}
 use Rattle.canon.specs.Gaps.{room_of, offsets_of, gaps_of}
 use Rattle.canon.proofs.Capped.{Enough}
 use Rattle.canon.proofs.Gaps.{offsets_padded, offsets_counted, gaps_counted}
@@ -14,26 +13,6 @@ use Rattle.host.specs.Numbers.{memory_at}
 use Rattle.host.proofs.Decoded.{front, room_first, call_first, lent_put}
 use borrow.Author.Rules.{rules}
 use Rattle.host.proofs.table_bytes.place_decoded.Goals as goal
-
-pub slice_bounds-place_into-end : goal.slice_bounds-place_into-end
-slice_bounds-place_into-end c =
-    let w = c.words_of-room in
-    sym (length-take-le w.result w.new.words (search rules))
-
-pub slice_bounds-place_into-end-3 : goal.slice_bounds-place_into-end-3
-slice_bounds-place_into-end-3 c =
-    let w = c.words_of-count in
-    sym (length-take-le w.result w.new.words (search rules))
-
-pub slice_bounds-place_into-end-5 : goal.slice_bounds-place_into-end-5
-slice_bounds-place_into-end-5 c =
-    let w = c.words_of-offset_room in
-    sym (length-take-le w.result w.new.words (search rules))
-
-pub slice_bounds-place_into-end-7 : goal.slice_bounds-place_into-end-7
-slice_bounds-place_into-end-7 c =
-    let w = c.words_of-gap_room in
-    sym (length-take-le w.result w.new.words (search rules))
 
 pub returns : goal.returns
 returns c =

@@ -3,7 +3,6 @@ use mathlib.Core.Path.{sym, ap, ◌∙◌}
 use Prim.Native.Nat.{◌≤◌}
 use native.Mathlib.Omega.{arith}
 use lib.ListN.{length}
-use lib.Seq.{length-take-le}
 use Rattle.canon.specs.Answer.{then}
 use Rattle.canon.specs.Question.{placement_answer, buffer_after, offsets_after}
 use Rattle.canon.specs.Gaps.{room_of, offsets_of, gaps_of}
@@ -39,21 +38,6 @@ pick_rows-count-requires c = (
   rw room_16 (omega (arith, c.requires)),
   omega (arith, c.requires),
 )
-
-pub slice_bounds-place_into-end-2 : goal.slice_bounds-place_into-end-2
-slice_bounds-place_into-end-2 c =
-    let w = c.pick_rows-count in
-    w.ensures.value.0 ∙ sym (length_whole _) ∙ sym w.ensures.names.count
-
-pub slice_bounds-place_into-end-3 : goal.slice_bounds-place_into-end-3
-slice_bounds-place_into-end-3 c =
-    let w = c.words_of-offset_room in
-    sym (length-take-le w.result w.new.words (search rules))
-
-pub slice_bounds-place_into-end-4 : goal.slice_bounds-place_into-end-4
-slice_bounds-place_into-end-4 c =
-    let w = c.words_of-gap_room in
-    sym (length-take-le w.result w.new.words (search rules))
 
 pub returns : goal.returns
 returns c =
