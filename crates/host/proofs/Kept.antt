@@ -3,6 +3,7 @@ use mathlib.Core.Path.{◌≡◌, sym, ap, ◌∙◌}
 use mathlib.Core.List.{List}
 use Prim.Native.Nat.{ℕ, ◌<◌}
 use contract.Lifetimes.{Lfts}
+use denote.Bor.{Bor}
 use denote.Ref.{MutBor, at_last}
 use lib.ListN.{get_or}
 use Rattle.canon.specs.Answer.{Answer, refused}
@@ -20,7 +21,7 @@ unfolding buffer_after
 unwritten words a x i out e = rw e
 
 pub placement_kept :
-    (κs : Lfts 4) (memory : ℕ) (t : MutBor (List ℕ)) (n : ℕ) (references out gs : MutBor (List ℕ)) (r x i : ℕ) (l k : List ℕ) →
+    (κs : Lfts 4) (memory : ℕ) (t : Bor (List ℕ)) (n : ℕ) (references : Bor (List ℕ)) (out gs : MutBor (List ℕ)) (r x i : ℕ) (l k : List ℕ) →
     placement-bytes.Post κs (memory, (t, (n, (references, (out, (gs, tt)))))) r (memory, (t, (n, (references, (at_last out l, (at_last gs k, tt)))))) →
     ((j : ℕ) → get_or out.now j 0 < 256) →
     ((j : ℕ) → get_or gs.now j 0 < 256) →

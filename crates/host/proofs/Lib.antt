@@ -11,4 +11,3 @@ pub mod Short
 pub mod Kept
 pub mod Picked
 pub mod ShortLists
-mod Front

@@ -1,30 +1,16 @@
--- A refusal's number fits the top byte; the numbers of a variant are its info's and three more.
+-- The numbers of a variant are its info's and three more.
 use mathlib.Core.Path.{◌≡◌, refl, sym, ap, ◌∙◌}
 use mathlib.Core.List.{List}
 use mathlib.Core.Option.{Option}
 use Prim.Native.Nat.{ℕ, ◌-◌, ◌≤◌, ◌<◌}
-use lib.Dec.{lit≤, lit<}
+use lib.Dec.{lit<}
 use Rattle.canon.specs.Answer.{Leaf, is, no}
 use Rattle.canon.specs.Row.{Abi}
 use Rattle.types.specs.Leaves.{VariantAbi, info_alone, variant_answer}
-use Rattle.types.specs.Means.{number_of}
-use Rattle.types.specs.declared.refusal.Refusal.{Refusal}
-use Rattle.types.specs.declared.refusal.Refusal.TheVariants.{TooLong, Truncated, BadKind, BadRef, BadCount, TooLarge, NoRoom, BadRow, TooDeep}
 use Rattle.types.specs.States.{CaseState, no_cases, add_cases, close_cases}
 use Rattle.types.proofs.VariantLaws.{variant_answer_lem}
 use Rattle.host.specs.Numbers.{chosen, leaf_number, abi_words, inner_words, variant_words}
 use Rattle.host.proofs.Chosen.{chosen_front, chosen_past}
-
-pub number_small : (x : Refusal) → number_of x ≤ 9
-number_small TooLong = lit≤ tt
-number_small Truncated = lit≤ tt
-number_small BadKind = lit≤ tt
-number_small BadRef = lit≤ tt
-number_small BadCount = lit≤ tt
-number_small TooLarge = lit≤ tt
-number_small NoRoom = lit≤ tt
-number_small BadRow = lit≤ tt
-number_small TooDeep = lit≤ tt
 
 -- the info's numbers of a variant, and the others
 

@@ -8,6 +8,7 @@ use native.Mathlib.Omega.{arith}
 use lib.ListN.{length}
 use borrow.Author.Tests.{ltb-false}
 use contract.Lifetimes.{Lfts}
+use denote.Bor.{Bor}
 use denote.Ref.{MutBor, at_last}
 use Rattle.canon.specs.Answer.{Leaf, is, no, Answer, ok, refused, then, unless, too_long, truncated, too_large, bad_row}
 use Rattle.canon.specs.Layout.{Memory, Layout, round_up, largest_number}
@@ -89,7 +90,7 @@ bytes_read b t = go (too_many_bytes b) (cut_bytes b)
     go false true = refusal_read truncated 0 (omega arith)
     go false false = build_read (whole_words b) (whole_words t)
 
-module _ (κs : Lfts 2) (ws t : MutBor (List ℕ)) (r : ℕ) (l : List ℕ) where
+module _ (κs : Lfts 2) (ws : Bor (List ℕ)) (t : MutBor (List ℕ)) (r : ℕ) (l : List ℕ) where
   pub build_bits : build.Post κs (ws, (t, tt)) r (ws, (at_last t l, tt)) → BuildBits (build_answer ws.now t.now) (build_reads ws.now t.now) r
   build_bits promise = rw promise.0 (build_read ws.now t.now)
 
@@ -129,7 +130,7 @@ placement_read m t n ws room =
     go (ok p) (refused x i) e f short gap = impossible (cc)
     go (refused x i) b e f short gap = refusal_read x i (placing_within m t n ws room x i e)
 
-module _ (κs : Lfts 4) (memory : ℕ) (t : MutBor (List ℕ)) (n : ℕ) (refs o g : MutBor (List ℕ)) (r : ℕ) (l k : List ℕ) where
+module _ (κs : Lfts 4) (memory : ℕ) (t : Bor (List ℕ)) (n : ℕ) (refs : Bor (List ℕ)) (o g : MutBor (List ℕ)) (r : ℕ) (l k : List ℕ) where
   pub placement_bits :
       placement.Post κs (memory, (t, (n, (refs, (o, (g, tt)))))) r (memory, (t, (n, (refs, (at_last o l, (at_last g k, tt)))))) →
       AnsweredBits (memory_at memory) t.now n refs.now (room_of o.now g.now) r

@@ -3,6 +3,7 @@ use mathlib.Core.Path.{◌≡◌, sym, ◌∙◌}
 use mathlib.Core.List.{List}
 use Prim.Native.Nat.{ℕ}
 use contract.Lifetimes.{Lfts}
+use denote.Bor.{Bor}
 use denote.Ref.{MutBor, at_last}
 use Rattle.host.proofs.leaves.lampughjata_align_to.Reads as align-to
 use Rattle.host.proofs.leaves.lampughjata_max.Reads as max
@@ -78,7 +79,7 @@ pub variant_one : (κs : Lfts 1) → Single (variant-of.Post κs)
 variant_one κs a r q g h = g ∙ sym h
 
 pub build_one :
-    (κs : Lfts 2) (x0 x1 : MutBor (List ℕ)) (r q : ℕ) (l k : List ℕ) →
+    (κs : Lfts 2) (x0 : Bor (List ℕ)) (x1 : MutBor (List ℕ)) (r q : ℕ) (l k : List ℕ) →
     build.Post κs (x0, (x1, tt)) r (x0, (at_last x1 l, tt)) →
     build.Post κs (x0, (x1, tt)) q (x0, (at_last x1 k, tt)) →
     (r ≡ q) × (l ≡ k)
@@ -91,7 +92,7 @@ pub size_align_one : (κs : Lfts 1) → Single (size-align.Post κs)
 size_align_one κs a r q g h = g ∙ sym h
 
 pub placement_one :
-    (κs : Lfts 4) (x0 : ℕ) (x1 : MutBor (List ℕ)) (x2 : ℕ) (x3 x4 x5 : MutBor (List ℕ)) (r q : ℕ) (l k l' k' : List ℕ) →
+    (κs : Lfts 4) (x0 : ℕ) (x1 : Bor (List ℕ)) (x2 : ℕ) (x3 : Bor (List ℕ)) (x4 x5 : MutBor (List ℕ)) (r q : ℕ) (l k l' k' : List ℕ) →
     placement.Post κs (x0, (x1, (x2, (x3, (x4, (x5, tt)))))) r (x0, (x1, (x2, (x3, (at_last x4 l, (at_last x5 l', tt)))))) →
     placement.Post κs (x0, (x1, (x2, (x3, (x4, (x5, tt)))))) q (x0, (x1, (x2, (x3, (at_last x4 k, (at_last x5 k', tt)))))) →
     (r ≡ q) × (l ≡ k) × (l' ≡ k')
@@ -125,7 +126,7 @@ pub variant_bytes_one : (κs : Lfts 1) → Single (variant-bytes.Post κs)
 variant_bytes_one κs a r q g h = g ∙ sym h
 
 pub build_bytes_one :
-    (κs : Lfts 2) (x0 x1 : MutBor (List ℕ)) (r q : ℕ) (l k : List ℕ) →
+    (κs : Lfts 2) (x0 : Bor (List ℕ)) (x1 : MutBor (List ℕ)) (r q : ℕ) (l k : List ℕ) →
     build-bytes.Post κs (x0, (x1, tt)) r (x0, (at_last x1 l, tt)) →
     build-bytes.Post κs (x0, (x1, tt)) q (x0, (at_last x1 k, tt)) →
     (r ≡ q) × (l ≡ k)
@@ -138,7 +139,7 @@ pub size_align_bytes_one : (κs : Lfts 1) → Single (size-align-bytes.Post κs)
 size_align_bytes_one κs a r q g h = g ∙ sym h
 
 pub placement_bytes_one :
-    (κs : Lfts 4) (x0 : ℕ) (x1 : MutBor (List ℕ)) (x2 : ℕ) (x3 x4 x5 : MutBor (List ℕ)) (r q : ℕ) (l k l' k' : List ℕ) →
+    (κs : Lfts 4) (x0 : ℕ) (x1 : Bor (List ℕ)) (x2 : ℕ) (x3 : Bor (List ℕ)) (x4 x5 : MutBor (List ℕ)) (r q : ℕ) (l k l' k' : List ℕ) →
     placement-bytes.Post κs (x0, (x1, (x2, (x3, (x4, (x5, tt)))))) r (x0, (x1, (x2, (x3, (at_last x4 l, (at_last x5 l', tt)))))) →
     placement-bytes.Post κs (x0, (x1, (x2, (x3, (x4, (x5, tt)))))) q (x0, (x1, (x2, (x3, (at_last x4 k, (at_last x5 k', tt)))))) →
     (r ≡ q) × (l ≡ k) × (l' ≡ k')

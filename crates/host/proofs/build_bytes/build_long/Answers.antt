@@ -1,10 +1,10 @@
 -- All words are decoded, and as many go back.
-use mathlib.Core.Path.{sym, ap, ap₂, ◌∙◌}
+use mathlib.Core.Path.{ap, ap₂, ◌∙◌}
 use mathlib.Core.List.{List}
 use Prim.Native.Nat.{ℕ, ◌/◌}
 use native.Mathlib.Omega.{arith}
 use lib.ListN.{length}
-use lib.Seq.{length-take-le, take_all}
+use lib.Seq.{take_all}
 use borrow.Author.Rules.{rules}
 use Rattle.canon.specs.Description.{build_answer, table_after}
 use Rattle.canon.specs.Cost.{build_reads}
@@ -14,14 +14,6 @@ use Rattle.host.specs.Numbers.{build_number}
 use Rattle.host.proofs.Decoded.{front_all}
 use Rattle.host.proofs.build_bytes.build_long.Goals as goal
 
-pub slice_bounds-build_into-end : goal.slice_bounds-build_into-end
-slice_bounds-build_into-end c =
-    let w = c.words_of-count in
-    sym (length-take-le w.result w.new.1.0 (search rules))
-
-pub slice_bounds-build_into-end-2 : goal.slice_bounds-build_into-end-2
-slice_bounds-build_into-end-2 c = let w = c.words_of-room in sym (length-take-le w.result w.new.1.0 (search rules))
-
 pub returns : goal.returns
 returns c =
     let t = c.args.table.now in
@@ -30,11 +22,11 @@ returns c =
     let into = c.build_into in
     let all = front_all _ _ 16384 (search rules) (search rules) words.ensures.0 words.ensures.1 in
     let rows = front_all _ _ 16384 (search rules) (search rules) table.ensures.0 table.ensures.1 in
-    let after = into.new.1.0 in record {
-      value = into.ensures.0 ∙ ap₂ (λ (ws u : List ℕ). build_number (build_answer ws u) (build_reads ws u)) all rows;
-      table_after = into.ensures.1.1
+    let after = into.new.table in record {
+      value = into.ensures.value ∙ ap₂ (λ (ws u : List ℕ). build_number (build_answer ws u) (build_reads ws u)) all rows;
+      table_after = into.ensures.bytes_after
           ∙ ap (λ (v : List ℕ). put_words 0 v t)
-          (take_all (length t / 4) after (omega (arith, into.ensures.1.0.1, ap length rows, length_whole t))
-          ∙ into.ensures.1.0.0
+          (take_all (length t / 4) after (omega (arith, into.ensures.table_after.1, ap length rows, length_whole t))
+          ∙ into.ensures.table_after.0
           ∙ ap₂ table_after all rows);
     }

@@ -2,7 +2,6 @@
 use mathlib.Core.Path.{ap, ap₂, ◌∙◌}
 use mathlib.Core.List.{List}
 use Prim.Native.Nat.{ℕ}
-use borrow.Author.Rules.{rules}
 use Rattle.build.specs.Means.{accepted}
 use Rattle.words.specs.Words.{whole_words, put_words}
 use Rattle.host.specs.Local.{with_rows}

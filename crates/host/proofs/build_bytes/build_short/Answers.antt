@@ -1,10 +1,9 @@
 -- All words are decoded, and the local table has the lent table's rows, at most 32 of them.
-use mathlib.Core.Path.{refl, sym, ap, ◌∙◌}
+use mathlib.Core.Path.{refl, ap, ◌∙◌}
 use mathlib.Core.List.{List}
 use Prim.Native.Nat.{ℕ}
 use native.Mathlib.Omega.{arith}
 use lib.ListN.{replicate, length-take}
-use lib.Seq.{length-take-le}
 use borrow.Author.Rules.{rules}
 use Rattle.canon.specs.Description.{build_answer, table_after}
 use Rattle.canon.specs.Cost.{build_reads}
@@ -14,19 +13,11 @@ use Rattle.host.proofs.Builds.{local_room}
 use Rattle.host.proofs.Decoded.{front_all}
 use Rattle.host.proofs.build_bytes.build_short.Goals as goal
 
-pub slice_bounds-build_rows-end : goal.slice_bounds-build_rows-end
-slice_bounds-build_rows-end c = let w = c.words_of-count in sym (length-take-le w.result w.new.1.0 (search rules))
-
-pub slice_bounds-build_rows-end-2 : goal.slice_bounds-build_rows-end-2
-slice_bounds-build_rows-end-2 c =
-    let r = c.local_words-room in
-    sym (length-take-le r.result (replicate 512 0) (omega (arith, r.ensures)))
-
 pub build_rows-requires : goal.build_rows-requires
 build_rows-requires c =
     let w = c.words_of-count in
     let r = c.local_words-room in
-    (omega (arith, length-take w.result w.new.1.0), local_room r.result _ (replicate 512 0) r.ensures refl)
+    (omega (arith, length-take w.result w.new.words), local_room r.result _ (replicate 512 0) r.ensures refl)
 
 pub returns : goal.returns
 returns c =
@@ -34,6 +25,6 @@ returns c =
     let words = c.words_of-count in
     let rows = c.build_rows in
     let all = front_all _ _ 64 (search rules) (search rules) words.ensures.0 words.ensures.1 in record {
-      value = rows.ensures.0 ∙ ap (λ (ws : List ℕ). build_number (build_answer ws (whole_words t)) (build_reads ws (whole_words t))) all;
-      table_after = rows.ensures.1 ∙ ap (λ (ws : List ℕ). put_words 0 (table_after ws (whole_words t)) t) all;
+      value = rows.ensures.value ∙ ap (λ (ws : List ℕ). build_number (build_answer ws (whole_words t)) (build_reads ws (whole_words t))) all;
+      table_after = rows.ensures.bytes_after ∙ ap (λ (ws : List ℕ). put_words 0 (table_after ws (whole_words t)) t) all;
     }

@@ -1,10 +1,8 @@
 -- The loop's invariant: the rows so far are given (`rows_turn`).
-use lib.ListN.{length}
-use mathlib.Core.Path.{◌≡◌, refl, sym, ap, ◌∙◌}
-use Prim.Native.Nat.{ℕ, ◌+◌, ◌-◌, ◌≤◌}
-use native.Mathlib.Nat.{le_antisymm}
+use mathlib.Core.Path.{refl, sym, ◌∙◌}
+use Prim.Native.Nat.{◌+◌}
 use native.Mathlib.Omega.{arith}
-use Rattle.words.specs.Words.{whole_words, put_words}
+use borrow.Author.Rules.{rules}
 use Rattle.words.proofs.Laws.{put_same}
 use Rattle.host.specs.Local.{with_rows}
 use Rattle.host.proofs.Builds.{rows_turn}
@@ -12,10 +10,7 @@ use Rattle.host.proofs.build_bytes.give_rows.Goals as goal
 
 pub loop-i-init : goal.loop-i-init
 unfolding with_rows
-loop-i-init c = (omega arith, refl, sym (put_same _ (λ i. (c.slice_known-1.given i).fits)))
-
-pub give_row-requires : goal.give_row-requires
-give_row-requires c = tt
+loop-i-init c = (omega arith, refl, sym (put_same _ (λ i. search rules)))
 
 pub loop-i-preserved : goal.loop-i-preserved
 loop-i-preserved c =
@@ -23,17 +18,8 @@ loop-i-preserved c =
     let l = c.loop-i in
     let gave = c.give_row in (
       omega arith,
-      gave.auto.1.1.0 ∙ l.invariant.1,
-      rows_turn a.table.now a.bytes.now (λ i. (c.shared_slice_known-1.given i).fits)
-          (λ i. (c.slice_known-1.given i).fits) l.i (l.i + 1) l.bytes gave.new.1.1.0 (omega arith)
+      gave.auto.bytes ∙ l.invariant.1,
+      rows_turn a.table.now a.bytes.now (λ i. search rules)
+          (λ i. search rules) l.i (l.i + 1) l.bytes gave.new.bytes (omega arith)
           l.invariant.2 gave.ensures,
     )
-
-pub shape_of-bytes : goal.shape_of-bytes
-shape_of-bytes c = c.loop-i.invariant.1
-
-pub returns : goal.returns
-returns c =
-    let a = c.args in
-    let l = c.loop-i in
-    l.invariant.2 ∙ ap (λ (n : ℕ). put_words 0 (with_rows a.table.now n (whole_words a.bytes.now)) a.bytes.now) (le_antisymm l.invariant.0 c.loop-i-test.false)

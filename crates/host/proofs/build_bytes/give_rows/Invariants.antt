@@ -1,13 +1,9 @@
 -- The loop's invariant: the rows so far are given (`rows_turn`).
 use lib.ListN.{length}
-use mathlib.Core.Path.{◌≡◌, refl, sym, ap, ◌∙◌}
-use Prim.Native.Nat.{ℕ, ◌+◌, ◌-◌, ◌≤◌}
-use native.Mathlib.Nat.{le_antisymm}
-use native.Mathlib.Omega.{arith}
+use mathlib.Core.Path.{◌≡◌}
+use Prim.Native.Nat.{◌-◌, ◌≤◌}
 use Rattle.words.specs.Words.{whole_words, put_words}
-use Rattle.words.proofs.Laws.{put_same}
 use Rattle.host.specs.Local.{with_rows}
-use Rattle.host.proofs.Builds.{rows_turn}
 use Rattle.host.proofs.build_bytes.give_rows.Given as goal
 
 abbrev pub invariant-loop-i : goal.invariant-loop-i

@@ -1,5 +1,4 @@
 use Rattle.host.specs.Infos.{info_at}
-use borrow.Author.Rules.{rules}
 use Rattle.host.proofs.lent.info_at.Goals as goal
 
 pub returns : goal.returns

@@ -1,6 +1,5 @@
 use Rattle.host.specs.Numbers.{chosen}
 use borrow.Author.Tests.{lt-ltb, le-ltb}
-use borrow.Author.Rules.{rules}
 use Rattle.host.proofs.packing.choose.Goals as goal
 
 pub returns-then-at-words : goal.returns-then-at-words

@@ -5,7 +5,6 @@ use Prim.Native.Nat.{ℕ}
 use Rattle.words.specs.Words.{whole_words}
 use Rattle.words.proofs.Laws.{length_whole}
 use Rattle.host.proofs.Picked.{no_rows_is}
-use borrow.Author.Rules.{rules}
 use Rattle.host.proofs.pick.no_rows.Goals as goal
 
 pub returns : goal.returns

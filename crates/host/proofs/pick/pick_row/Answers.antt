@@ -8,7 +8,6 @@ use Rattle.canon.proofs.Cells.{room_fits}
 use Rattle.words.specs.Words.{whole_words}
 use Rattle.host.specs.Picked.{read_picked}
 use Rattle.host.proofs.Picked.{same_kept, plain_picked, none_picked, row_picked, others_kept}
-use borrow.Author.Rules.{rules}
 use Rattle.host.proofs.pick.pick_row.Goals as goal
 
 pub returns-then-reference-lt-FIRST_DEFINITION : goal.returns-then-reference-lt-FIRST_DEFINITION

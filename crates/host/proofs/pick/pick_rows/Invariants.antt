@@ -1,16 +1,10 @@
 -- The loop's invariant: the first k have their new names (`picking_more`).
-use mathlib.Core.Path.{◌≡◌, refl, sym, ap, ◌∙◌}
+use mathlib.Core.Path.{◌≡◌}
 use Prim.Native.Nat.{◌-◌, ◌/◌, ◌≤◌}
-use native.Mathlib.Nat.{le_antisymm}
-use native.Mathlib.Omega.{arith}
-use lib.ListN.{length, length-set}
-use Rattle.canon.specs.Question.{read}
-use Rattle.canon.proofs.Cells.{room_fits}
+use lib.ListN.{length}
 use Rattle.words.specs.Words.{whole_words}
-use Rattle.words.proofs.Laws.{length_whole}
 use Rattle.host.specs.Picked.{Keeps}
-use Rattle.host.proofs.Picked.{same_kept, keeps_on, Picking, picking_more, picking_all}
-use borrow.Author.Rules.{rules}
+use Rattle.host.proofs.Picked.{Picking}
 use Rattle.host.proofs.pick.pick_rows.Given as goal
 
 abbrev pub invariant-loop-k : goal.invariant-loop-k

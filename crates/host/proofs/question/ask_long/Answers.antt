@@ -1,19 +1,9 @@
 -- The decoded fronts are the first words of the bytes; the rest changes no answer.
-use mathlib.Core.Path.{sym, ◌∙◌}
-use lib.Seq.{length-take-le}
+use mathlib.Core.Path.{◌∙◌}
 use Rattle.words.specs.Words.{whole_words}
 use Rattle.host.proofs.Decoded.{front, question_first}
 use borrow.Author.Rules.{rules}
 use Rattle.host.proofs.question.ask_long.Goals as goal
-
-pub slice_bounds-ask-end : goal.slice_bounds-ask-end
-slice_bounds-ask-end c = let w = c.words_of-room in sym (length-take-le w.result w.new.1.0 (search rules))
-
-pub slice_bounds-ask-end-2 : goal.slice_bounds-ask-end-2
-slice_bounds-ask-end-2 c = let w = c.words_of-firsts in sym (length-take-le w.result w.new.1.0 (search rules))
-
-pub slice_bounds-ask-end-3 : goal.slice_bounds-ask-end-3
-slice_bounds-ask-end-3 c = let w = c.words_of-seconds in sym (length-take-le w.result w.new.1.0 (search rules))
 
 pub returns : goal.returns
 returns c =

@@ -5,7 +5,6 @@ use Rattle.words.specs.Words.{whole_words}
 use Rattle.words.proofs.Laws.{length_whole}
 use Rattle.host.proofs.Picked.{names_kept}
 use Rattle.host.proofs.ShortLists.{room_32, question_missing, question_alike}
-use borrow.Author.Rules.{rules}
 use Rattle.host.proofs.question.ask_short.Goals as goal
 
 pub returns-then-no_rows : goal.returns-then-no_rows
@@ -21,13 +20,7 @@ pick_rows-firsts-requires c = (sym c.no_rows.ensures ∙ c.if-no_rows.false, rw 
 
 pub pick_rows-seconds-requires : goal.pick_rows-seconds-requires
 pick_rows-seconds-requires c =
-    (sym c.no_rows.ensures ∙ c.if-no_rows.false, rw (c.pick_rows-firsts.ensures.names.1.size, room_32) (omega (arith, c.requires.1)), omega (arith, c.requires.1))
-
-pub slice_bounds-ask-end-2 : goal.slice_bounds-ask-end-2
-slice_bounds-ask-end-2 c = let w = c.pick_rows-firsts in w.ensures.0.0 ∙ sym (length_whole _) ∙ sym w.ensures.1.0.count
-
-pub slice_bounds-ask-end-3 : goal.slice_bounds-ask-end-3
-slice_bounds-ask-end-3 c = let w = c.pick_rows-seconds in w.ensures.0.0 ∙ sym (length_whole _) ∙ sym w.ensures.1.0.count
+    (sym c.no_rows.ensures ∙ c.if-no_rows.false, rw (c.pick_rows-firsts.ensures.keeps.size, room_32) (omega (arith, c.requires.1)), omega (arith, c.requires.1))
 
 pub returns : goal.returns
 returns c =
@@ -40,9 +33,9 @@ returns c =
     let first = c.pick_rows-firsts.ensures in
     let second = c.pick_rows-seconds.ensures in
     c.ask.ensures
-    ∙ question_alike _ t 32 a.rows (rw (second.1.1.size, first.1.1.size) room_32) there _ _ _ vs _ ws
-    (names_kept _ 16 _ _ _ t a.rows vs first.1.0 second.1.1 (omega (arith, first.0.0, p.0)))
-    second.1.0
+    ∙ question_alike _ t 32 a.rows (rw (second.keeps.size, first.keeps.size) room_32) there _ _ _ vs _ ws
+    (names_kept _ 16 _ _ _ t a.rows vs first.names second.keeps (omega (arith, first.value.0, p.0)))
+    second.names
     (omega (arith, p.0, length_whole a.first.now))
     (omega (arith, p.1, length_whole a.second.now))
     a.question

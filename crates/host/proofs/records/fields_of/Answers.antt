@@ -1,19 +1,15 @@
 use borrow.Author.Rules.{rules}
-use native.Mathlib.Nat.{sub-zero}
-use mathlib.Core.Path.{◌≡◌, refl, sym, ap, ◌∙◌}
+use mathlib.Core.Path.{refl, sym, ap, ◌∙◌}
 use mathlib.Core.List.{List}
-use Prim.Native.Nat.{ℕ, ◌-◌, ◌*◌, ◌≤◌}
+use Prim.Native.Nat.{ℕ, ◌*◌}
 use Rattle.canon.specs.Row.{Abi}
-use Rattle.types.specs.States.{record_means, no_fields, add_fields}
-use Rattle.host.specs.Infos.{info_at, several}
+use Rattle.types.specs.States.{record_means, add_fields}
+use Rattle.host.specs.Infos.{info_at}
 use Rattle.host.proofs.Several.{one_more_lem, no_more}
 use Rattle.host.proofs.records.fields_of.Goals as goal
 
 abbrev item : List ℕ → ℕ → Abi
 item words i = info_at words (5 * i)
-
-pub loop-j-init : goal.loop-j-init
-loop-j-init c = (search rules, rw (c.start-state.ensures, sub-zero))
 
 pub loop-j-preserved : goal.loop-j-preserved
 unfolding add_fields

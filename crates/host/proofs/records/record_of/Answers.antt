@@ -1,7 +1,6 @@
 use mathlib.Core.Path.{ap, ◌∙◌}
 use Rattle.types.specs.States.{close_fields}
 use Rattle.types.proofs.RecordLaws.{record_answer_lem}
-use borrow.Author.Rules.{rules}
 use Rattle.host.proofs.records.record_of.Goals as goal
 
 pub returns : goal.returns

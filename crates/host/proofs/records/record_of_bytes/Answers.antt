@@ -5,7 +5,6 @@ use Rattle.types.specs.States.{close_fields}
 use Rattle.types.proofs.RecordLaws.{record_answer_lem}
 use Rattle.words.proofs.Laws.{length_whole}
 use Rattle.host.specs.Infos.{several}
-use borrow.Author.Rules.{rules}
 use Rattle.host.proofs.records.record_of_bytes.Goals as goal
 
 pub returns-then-n-eq-LENT_RECORD : goal.returns-then-n-eq-LENT_RECORD

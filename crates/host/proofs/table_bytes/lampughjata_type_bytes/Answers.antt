@@ -3,7 +3,6 @@ use mathlib.Core.Path.{sym, ◌∙◌}
 use native.Mathlib.Omega.{arith}
 use Rattle.words.specs.Words.{whole_words}
 use Rattle.host.proofs.ShortLists.{room_1, type_missing, type_alike}
-use borrow.Author.Rules.{rules}
 use Rattle.host.proofs.table_bytes.lampughjata_type_bytes.Goals as goal
 
 pub returns-then-no_rows : goal.returns-then-no_rows
@@ -21,4 +20,4 @@ returns c =
     let there = sym c.no_rows.ensures ∙ c.if-no_rows.false in
     let pick = c.pick_row-name in
     c.lampughjata_type.ensures
-    ∙ rw (type_alike _ (whole_words a.table.now) 1 a.rows (rw pick.ensures.1.size room_1) there _ a.reference pick.ensures.0.1)
+    ∙ rw (type_alike _ (whole_words a.table.now) 1 a.rows (rw pick.ensures.keeps.size room_1) there _ a.reference pick.ensures.upper_bound.1)

@@ -4,7 +4,6 @@ use mathlib.Core.List.{List}
 use Prim.Native.Nat.{ℕ}
 use native.Mathlib.Omega.{arith}
 use lib.ListN.{length}
-use lib.Seq.{length-take-le}
 use Rattle.canon.specs.Gaps.{room_of, offsets_of, gaps_of}
 use Rattle.canon.proofs.Capped.{Enough}
 use Rattle.canon.proofs.Gaps.{offsets_padded, offsets_counted, gaps_counted}
@@ -15,33 +14,13 @@ use Rattle.host.proofs.Decoded.{front, room_first, call_first, lent_put}
 use borrow.Author.Rules.{rules}
 use Rattle.host.proofs.table_bytes.place_decoded.Goals as goal
 
-pub slice_bounds-place_into-end : goal.slice_bounds-place_into-end
-slice_bounds-place_into-end c =
-    let w = c.words_of-room in
-    sym (length-take-le w.result w.new.1.0 (search rules))
-
-pub slice_bounds-place_into-end-3 : goal.slice_bounds-place_into-end-3
-slice_bounds-place_into-end-3 c =
-    let w = c.words_of-count in
-    sym (length-take-le w.result w.new.1.0 (search rules))
-
-pub slice_bounds-place_into-end-5 : goal.slice_bounds-place_into-end-5
-slice_bounds-place_into-end-5 c =
-    let w = c.words_of-offset_room in
-    sym (length-take-le w.result w.new.1.0 (search rules))
-
-pub slice_bounds-place_into-end-7 : goal.slice_bounds-place_into-end-7
-slice_bounds-place_into-end-7 c =
-    let w = c.words_of-gap_room in
-    sym (length-take-le w.result w.new.1.0 (search rules))
-
 pub returns : goal.returns
 returns c =
     let into = c.place_into in
     let list = c.words_of-count in
     let table = c.words_of-room in
-    let a = lent.before.before.before.before.args in
-    let p = lent.before.before.before.before.requires in
+    let a = c.args in
+    let p = c.requires in
     let k = length a.rs.now in
     let m = memory_at a.memory in
     let t = whole_words a.table.now in
@@ -56,13 +35,13 @@ returns c =
     let room = room_first k os gs in
     let shared = room_of os gs in
     let offsets = offsets_padded m t a.rows ws shared os in
-    let done = into.ensures.1 in (
-      into.ensures.0 ∙ rw (rows, few, out, gaps, room) (call_first k ws enough m t a.rows shared),
-      done.1.1.0
-          ∙ lent_put _ a.offsets.now (λ i. (lent.before.slice-known.given i).fits) k offsets_of m t a.rows ws shared enough (done.0.1 ∙ ap length out)
-          (offsets_counted m t a.rows ws shared) (done.0.0 ∙ rw (rows, few, out, gaps, room) (offsets_padded _ _ _ _ _ _))
+    let done = into.ensures in (
+      done.value ∙ rw (rows, few, out, gaps, room) (call_first k ws enough m t a.rows shared),
+      done.offset_bytes_after
+          ∙ lent_put _ a.offsets.now (λ i. search rules) k offsets_of m t a.rows ws shared enough (done.offsets_after.1 ∙ ap length out)
+          (offsets_counted m t a.rows ws shared) (done.offsets_after.0 ∙ rw (rows, few, out, gaps, room) (offsets_padded _ _ _ _ _ _))
           ∙ ap (λ (u : List ℕ). put_words 0 u a.offsets.now) (sym offsets),
-      done.1.1.1
-          ∙ lent_put _ a.gaps.now (λ i. (lent.slice-known2.given i).fits) k gaps_of m t a.rows ws shared enough (done.1.0.1 ∙ ap length gaps)
-          (gaps_counted m t a.rows ws shared) (done.1.0.0 ∙ rw (rows, few, out, gaps, room)),
+      done.gap_bytes_after
+          ∙ lent_put _ a.gaps.now (λ i. search rules) k gaps_of m t a.rows ws shared enough (done.gaps_after.1 ∙ ap length gaps)
+          (gaps_counted m t a.rows ws shared) (done.gaps_after.0 ∙ rw (rows, few, out, gaps, room)),
     )

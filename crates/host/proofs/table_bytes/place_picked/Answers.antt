@@ -3,7 +3,6 @@ use mathlib.Core.Path.{sym, ap, ◌∙◌}
 use Prim.Native.Nat.{◌≤◌}
 use native.Mathlib.Omega.{arith}
 use lib.ListN.{length}
-use lib.Seq.{length-take-le}
 use Rattle.canon.specs.Answer.{then}
 use Rattle.canon.specs.Question.{placement_answer, buffer_after, offsets_after}
 use Rattle.canon.specs.Gaps.{room_of, offsets_of, gaps_of}
@@ -29,8 +28,8 @@ returns-then-no_rows c =
     let none = placing_missing m t a.rows ws room few missing in
     let nothing = padding_missing m t a.rows ws room few missing in (
       rw none c.refused.ensures,
-      rw none (sym (put_same a.offsets.now (λ i. (c.slice_known-1.given i).fits))),
-      rw nothing (sym (put_same a.gaps.now (λ i. (c.slice_known-2-1.given i).fits))),
+      rw none (sym (put_same a.offsets.now (λ i. search rules))),
+      rw nothing (sym (put_same a.gaps.now (λ i. search rules))),
     )
 
 pub pick_rows-count-requires : goal.pick_rows-count-requires
@@ -40,50 +39,33 @@ pick_rows-count-requires c = (
   omega (arith, c.requires),
 )
 
-pub slice_bounds-place_into-end-2 : goal.slice_bounds-place_into-end-2
-slice_bounds-place_into-end-2 c =
-    let w = c.pick_rows-count in
-    w.ensures.0.0 ∙ sym (length_whole _) ∙ sym w.ensures.1.0.count
-
-pub slice_bounds-place_into-end-3 : goal.slice_bounds-place_into-end-3
-slice_bounds-place_into-end-3 c =
-    let w = c.words_of-offset_room in
-    sym (length-take-le w.result w.new.1.0 (search rules))
-
-pub slice_bounds-place_into-end-4 : goal.slice_bounds-place_into-end-4
-slice_bounds-place_into-end-4 c =
-    let w = c.words_of-gap_room in
-    sym (length-take-le w.result w.new.1.0 (search rules))
-
 pub returns : goal.returns
 returns c =
     let into = c.place_into in
     let buffer = c.words_of-offset_room in
-    let picks = picking.pick_rows.ensures in
-    let tested = picking.before.before.before in
-    let lent = tested.before.before in
-    let a = lent.before.before.before.before.args in
+    let picks = c.pick_rows-count.ensures in
+    let a = c.args in
     let m = memory_at a.memory in
     let t = whole_words a.table.now in
     let ws = whole_words a.references.now in
     let os = whole_words a.offsets.now in
     let gs = whole_words a.gaps.now in
-    let there = sym tested.before.no_rows.ensures ∙ tested.if1.false in
+    let there = sym c.no_rows.ensures ∙ c.if-no_rows.false in
     let out = front _ _ 16 (search rules) buffer.ensures.0 buffer.ensures.1 in
     let gaps = front _ _ 16 (search rules) c.words_of-gap_room.ensures.0 c.words_of-gap_room.ensures.1 in
     let room = room_first 16 os gs in
-    let few : length ws ≤ 16 = omega (arith, lent.before.before.before.before.requires, length_whole a.references.now) in
+    let few : length ws ≤ 16 = omega (arith, c.requires, length_whole a.references.now) in
     let shared = room_of os gs in
     let offsets = offsets_padded m t a.rows ws shared os in
-    let done = into.ensures.1 in (
-      into.ensures.0 ∙ rw (out, gaps, room) (call_alike _ t 16 a.rows (rw picks.1.1.size room_16) there _ _ ws picks.1.0 few m shared),
-      done.1.1.0
-          ∙ front_put 16 _ a.offsets.now (λ i. (lent.before.slice-known.given i).fits) (done.0.1 ∙ ap length out)
-          (lent_alike _ t 16 a.rows (rw picks.1.1.size room_16) there _ _ ws picks.1.0 few offsets_of m shared os _
-          (offsets_counted m t a.rows ws shared) (done.0.0 ∙ rw (out, gaps, room) (offsets_padded _ _ _ _ _ _))
+    let done = into.ensures in (
+      done.value ∙ rw (out, gaps, room) (call_alike _ t 16 a.rows (rw picks.keeps.size room_16) there _ _ ws picks.names few m shared),
+      done.offset_bytes_after
+          ∙ front_put 16 _ a.offsets.now (λ i. search rules) (done.offsets_after.1 ∙ ap length out)
+          (lent_alike _ t 16 a.rows (rw picks.keeps.size room_16) there _ _ ws picks.names few offsets_of m shared os _
+          (offsets_counted m t a.rows ws shared) (done.offsets_after.0 ∙ rw (out, gaps, room) (offsets_padded _ _ _ _ _ _))
           ∙ sym offsets),
-      done.1.1.1
-          ∙ front_put 16 _ a.gaps.now (λ i. (lent.slice-known2.given i).fits) (done.1.0.1 ∙ ap length gaps)
-          (lent_alike _ t 16 a.rows (rw picks.1.1.size room_16) there _ _ ws picks.1.0 few gaps_of m shared gs _
-          (gaps_counted m t a.rows ws shared) (done.1.0.0 ∙ rw (out, gaps, room))),
+      done.gap_bytes_after
+          ∙ front_put 16 _ a.gaps.now (λ i. search rules) (done.gaps_after.1 ∙ ap length gaps)
+          (lent_alike _ t 16 a.rows (rw picks.keeps.size room_16) there _ _ ws picks.names few gaps_of m shared gs _
+          (gaps_counted m t a.rows ws shared) (done.gaps_after.0 ∙ rw (out, gaps, room))),
     )

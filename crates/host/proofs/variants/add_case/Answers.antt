@@ -1,6 +1,5 @@
 use borrow.Author.Tests.{eq-eqb, ne_eqb}
 use Rattle.host.specs.Infos.{case_at}
-use borrow.Author.Rules.{rules}
 use Rattle.host.proofs.variants.add_case.Goals as goal
 
 pub returns-then-words-at-eq0 : goal.returns-then-words-at-eq0

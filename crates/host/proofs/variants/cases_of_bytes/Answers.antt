@@ -1,15 +1,15 @@
 use borrow.Author.Rules.{rules}
 use native.Mathlib.Nat.{sub-zero}
-use mathlib.Core.Path.{◌≡◌, refl, sym, ap, ◌∙◌}
+use mathlib.Core.Path.{refl, sym, ap, ◌∙◌}
 use mathlib.Core.List.{List}
 use mathlib.Core.Option.{Option}
-use Prim.Native.Nat.{ℕ, ◌-◌, ◌*◌, ◌/◌, ◌≤◌}
+use Prim.Native.Nat.{ℕ, ◌*◌, ◌/◌}
 use lib.ListN.{length}
 use Rattle.canon.specs.Row.{Abi}
-use Rattle.types.specs.States.{cases_means, no_cases, add_cases}
+use Rattle.types.specs.States.{cases_means, add_cases}
 use Rattle.words.specs.Words.{whole_words}
 use Rattle.words.proofs.Laws.{length_whole}
-use Rattle.host.specs.Infos.{case_at, several, lent_cases}
+use Rattle.host.specs.Infos.{case_at}
 use Rattle.host.proofs.Several.{one_more_lem, no_more}
 use Rattle.host.proofs.variants.cases_of_bytes.Goals as goal
 

@@ -1,7 +1,6 @@
 use mathlib.Core.Path.{ap, ◌∙◌}
 use Rattle.host.specs.Numbers.{leaf_number, chosen, abi_words, inner_words}
 use Rattle.host.proofs.Packs.{first_five, past_five}
-use borrow.Author.Rules.{rules}
 use Rattle.host.proofs.variants.lampughjata_variant_bytes.Goals as goal
 
 pub returns-then-k-lt-FIRST_INNER : goal.returns-then-k-lt-FIRST_INNER

@@ -1,8 +1,0 @@
-use borrow.Author.Rules.{rules}
-use Rattle.host.proofs.packing.info_number.Goals as goal
-
-pub returns-in-Info : goal.returns-in-Info
-returns-in-Info c = simp (c.in-Info.is, c.choose.ensures, c.info_words-words.ensures)
-
-pub returns-in-Refused : goal.returns-in-Refused
-returns-in-Refused c = simp (c.in-Refused.is, c.refused.ensures)
