@@ -12,7 +12,7 @@ use native.Mathlib.Omega.{arith}
 use lib.Dec.{ltb}
 use lib.ListN.{length, get_or, take, drop}
 use borrow.Author.Tests.{ltb-true, ltb-false, lt-ltb, le-ltb}
-use Rattle.canon.specs.Answer.{Leaf, is, no as refuses, Answer, ok, refused, map_option, truncated, bad_kind, bad_ref, bad_count, too_large, too_deep}
+use Rattle.canon.specs.Answer.{Leaf, is, no as refuses, ok, refused, map_option, truncated, bad_kind, bad_ref, bad_count, too_large, too_deep}
 use Rattle.canon.specs.Types.{Ty, record_of, tuple_of, Members, Kind, k_record, k_tuple}
 use Rattle.canon.specs.Layout.{Memory, mem32, mem64, Layout, largest_number, end_after, starts, ends, last_end, record_size, record_layout, layout, members, round_up}
 use Rattle.canon.specs.Reach.{depth, deepest, is_too_deep}

@@ -11,7 +11,6 @@ use Rattle.head.specs.Heads as specs
 use Rattle.head.specs.Means.{kind_means, head_means}
 use Rattle.head.specs.declared.Kind.{Kind}
 use Rattle.head.specs.declared.Kind.TheVariants as kind
-use Rattle.head.specs.declared.Heading.{Heading}
 use Rattle.head.specs.declared.Head.{Head}
 use Rattle.head.specs.declared.Head.TheVariants as head
 use Rattle.head.proofs.kind_word.Reads as kind-word

@@ -18,7 +18,6 @@ use denote.Triple.Clauses.{AtExit}
 use Rattle.canon.specs.Answer.{Leaf, is, no}
 use Rattle.canon.specs.Layout as canon
 use Rattle.canon.specs.Row.{Abi}
-use Rattle.types.specs.declared.refusal.Refusal.TheVariants.{TooLarge}
 use Rattle.types.specs.declared.round.Rounded.{Rounded}
 use Rattle.types.specs.declared.round.Rounded.TheVariants as rounded
 use Rattle.types.specs.declared.flat.FlatCount.{FlatCount}

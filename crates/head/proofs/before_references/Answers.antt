@@ -1,6 +1,5 @@
 -- The packed bits are the shapes' own.
 use mathlib.Core.Path.{◌∙◌}
-use borrow.Author.Rules.{rules}
 use Rattle.head.specs.Means.{kind_means}
 use Rattle.head.proofs.Sizes.{counted_bits}
 use Rattle.head.proofs.before_references.Goals as goal

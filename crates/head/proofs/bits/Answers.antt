@@ -1,6 +1,5 @@
 -- A kind word is at most 10, so the shift is below 32.
 use native.Mathlib.Omega.{arith}
-use borrow.Author.Rules.{rules}
 use Rattle.head.specs.Means.{kind_means}
 use Rattle.head.proofs.Sizes.{word_small}
 use Rattle.head.proofs.bits.Goals as goal

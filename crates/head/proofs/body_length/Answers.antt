@@ -1,6 +1,5 @@
 -- Packed, and as many references as the count tells.
 use native.Mathlib.Omega.{arith}
-use borrow.Author.Rules.{rules}
 use Rattle.head.specs.Means.{kind_means}
 use Rattle.canon.specs.Description.{shape_of}
 use Rattle.head.proofs.Sizes.{length_bits, with_counted, counted_few}

@@ -1,5 +1,4 @@
 -- Past the end, no kind, or what the body says.
-use borrow.Author.Rules.{rules}
 use borrow.Author.Tests.{lt-ltb, le-ltb}
 use Rattle.head.specs.Heads.{head_at, head_kind}
 use Rattle.head.proofs.read_head.Goals as goal

@@ -1,5 +1,4 @@
 -- The shift divides.
-use borrow.Author.Rules.{rules}
 use Rattle.flat_types.proofs.Masks.{pow4}
 use Rattle.flat_types.proofs.packed.unused_zero.Goals as goal
 

@@ -1,5 +1,4 @@
 -- The mask keeps the first types.
-use borrow.Author.Rules.{rules}
 use Rattle.flat_types.proofs.Masks.{bit_pos, masked}
 use Rattle.flat_types.proofs.packed.used.Goals as goal
 

@@ -2,7 +2,6 @@
 use native.Mathlib.Omega.{arith}
 use Rattle.flat_types.proofs.Masks.{bit_pos, mask_fits}
 use Rattle.flat_types.proofs.Halves.{masked_both}
-use borrow.Author.Rules.{rules}
 use Rattle.flat_types.proofs.packed.used_both.Goals as goal
 
 pub overflow_sub-ones : goal.overflow_sub-ones

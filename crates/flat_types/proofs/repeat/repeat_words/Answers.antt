@@ -1,6 +1,5 @@
 -- As many copies as 16 types hold, and the first of them.
 use Rattle.flat_types.proofs.Copying.{repeated_fits, repeated_both}
-use borrow.Author.Rules.{rules}
 use Rattle.flat_types.proofs.repeat.repeat_words.Goals as goal
 
 pub overflow_mul-all : goal.overflow_mul-all

@@ -1,7 +1,6 @@
 -- What is read of the row is its words (`numbers_read`).
 use Rattle.table.specs.Rows.{row_in}
 use Rattle.listing.proofs.Rows.{numbers_read}
-use borrow.Author.Rules.{rules}
 use Rattle.listing.proofs.lines.numbers_of.Goals as goal
 
 pub returns : goal.returns

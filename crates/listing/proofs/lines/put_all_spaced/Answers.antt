@@ -1,12 +1,9 @@
 -- The loop's invariant: the numbers so far are written (`spaced_turn`).
-use mathlib.Core.Path.{◌≡◌, refl, ap}
-use Prim.Native.Nat.{◌-◌, ◌*◌, ◌≤◌}
+use mathlib.Core.Path.{refl, ap}
 use native.Mathlib.Omega.{arith}
-use lib.ListN.{length, take}
 use lib.Seq.{take_all}
 use borrow.Author.Rules.{rules}
 use Rattle.listing.specs.Text.{spaced_all}
-use Rattle.listing.specs.Told.{Puts}
 use Rattle.listing.proofs.Writing.{puts_none, puts_then, puts_as, spaced_turn}
 use Rattle.listing.proofs.lines.put_all_spaced.Goals as goal
 

@@ -1,13 +1,9 @@
 -- The loop's invariant: the numbers so far are written (`spaced_turn`).
-use mathlib.Core.Path.{◌≡◌, refl, ap}
+use mathlib.Core.Path.{◌≡◌}
 use Prim.Native.Nat.{◌-◌, ◌*◌, ◌≤◌}
-use native.Mathlib.Omega.{arith}
 use lib.ListN.{length, take}
-use lib.Seq.{take_all}
-use borrow.Author.Rules.{rules}
 use Rattle.listing.specs.Text.{spaced_all}
 use Rattle.listing.specs.Told.{Puts}
-use Rattle.listing.proofs.Writing.{puts_none, puts_then, puts_as, spaced_turn}
 use Rattle.listing.proofs.lines.put_all_spaced.Given as goal
 
 abbrev pub invariant-loop-k : goal.invariant-loop-k

@@ -1,5 +1,4 @@
 -- The line of each answer.
-use borrow.Author.Rules.{rules}
 use Rattle.listing.proofs.lines.put_answer.Goals as goal
 
 pub returns-in-Rows : goal.returns-in-Rows

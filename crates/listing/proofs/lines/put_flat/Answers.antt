@@ -1,7 +1,6 @@
 -- The dash for 255, else the number.
 use native.Mathlib.Omega.{arith}
 use Rattle.listing.proofs.Writing.{puts_as, flat_none, flat_some}
-use borrow.Author.Rules.{rules}
 use Rattle.listing.proofs.lines.put_flat.Goals as goal
 
 pub returns-then-count-eq-NO_FLAT_COUNT : goal.returns-then-count-eq-NO_FLAT_COUNT

@@ -3,7 +3,6 @@ use mathlib.Core.Path.{refl}
 use native.Mathlib.Omega.{arith}
 use Rattle.listing.specs.Text.{end_line}
 use Rattle.listing.proofs.Writing.{puts_as, puts_then}
-use borrow.Author.Rules.{rules}
 use Rattle.listing.proofs.lines.put_ok.Goals as goal
 
 pub returns : goal.returns

@@ -1,7 +1,6 @@
 -- Four texts, one after another, are the line.
 use Rattle.listing.specs.Text.{end_line}
 use Rattle.listing.proofs.Writing.{puts_then}
-use borrow.Author.Rules.{rules}
 use Rattle.listing.proofs.lines.put_refused.Goals as goal
 
 pub returns : goal.returns

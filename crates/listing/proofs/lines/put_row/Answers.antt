@@ -4,7 +4,6 @@ use Rattle.table.specs.Rows.{row_in}
 use Rattle.listing.specs.Text.{row_line}
 use Rattle.listing.proofs.Rows.{count_read}
 use Rattle.listing.proofs.Writing.{puts_then, puts_as}
-use borrow.Author.Rules.{rules}
 use Rattle.listing.proofs.lines.put_row.Goals as goal
 
 pub returns : goal.returns

@@ -1,10 +1,8 @@
 -- The loop's invariant: the lines of the rows so far are written (`lines_turn`).
 use mathlib.Core.Path.{◌≡◌, refl, ap}
-use Prim.Native.Nat.{◌-◌, ◌*◌, ◌≤◌}
 use native.Mathlib.Omega.{arith}
-use lib.ListN.{length}
 use borrow.Author.Rules.{rules}
-use Rattle.listing.specs.Told.{Puts, table_lines}
+use Rattle.listing.specs.Told.{table_lines}
 use Rattle.listing.proofs.Telling.{lines_turn}
 use Rattle.listing.proofs.Writing.{puts_none, puts_then, puts_as}
 use Rattle.listing.proofs.lines.put_rows.Goals as goal

@@ -1,6 +1,5 @@
 -- One byte is a text of its own.
 use Rattle.listing.proofs.Writing.{puts_one}
-use borrow.Author.Rules.{rules}
 use Rattle.listing.proofs.numbers.put_byte.Goals as goal
 
 pub returns : goal.returns

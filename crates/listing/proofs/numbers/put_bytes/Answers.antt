@@ -1,10 +1,7 @@
 -- The loop's invariant: the bytes so far are written (`bytes_turn`).
-use mathlib.Core.Path.{◌≡◌, refl}
-use Prim.Native.Nat.{◌-◌, ◌≤◌}
-use lib.ListN.{length, take}
+use mathlib.Core.Path.{refl}
 use lib.Seq.{take_all}
 use borrow.Author.Rules.{rules}
-use Rattle.listing.specs.Told.{Puts}
 use Rattle.listing.proofs.Writing.{puts_none, puts_then, puts_as, bytes_turn}
 use Rattle.listing.proofs.numbers.put_bytes.Goals as goal
 

@@ -1,7 +1,6 @@
 -- A number, then a space.
 use Rattle.listing.specs.Text.{spaced}
 use Rattle.listing.proofs.Writing.{puts_then}
-use borrow.Author.Rules.{rules}
 use Rattle.listing.proofs.numbers.put_spaced.Goals as goal
 
 pub returns : goal.returns

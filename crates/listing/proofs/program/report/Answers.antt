@@ -6,7 +6,6 @@ use lib.ListN.{length}
 use Rattle.listing.specs.Text.{most_bytes, written}
 use Rattle.listing.proofs.Telling.{shown_none, shown_all}
 use Rattle.listing.proofs.Writing.{puts_as, puts_length}
-use borrow.Author.Rules.{rules}
 use Rattle.listing.proofs.program.report.Goals as goal
 
 pub returns-then-out-lt-MOST_BYTES : goal.returns-then-out-lt-MOST_BYTES

@@ -1,6 +1,5 @@
 -- The tests in their order.
 use Rattle.signature.specs.Packs.{bad_maximum}
-use borrow.Author.Rules.{rules}
 use Rattle.signature.proofs.flatten.bad_maximum.Goals as goal
 
 pub returns-then-too_many : goal.returns-then-too_many

@@ -2,7 +2,6 @@
 use Rattle.canon.specs.Answer.{then}
 use Rattle.canon.specs.Layout.{mem32}
 use Rattle.signature.proofs.Asking.{borrow_gathered}
-use borrow.Author.Rules.{rules}
 use Rattle.signature.proofs.flatten.contains_borrow_resource.Goals as goal
 
 pub returns-in-All : goal.returns-in-All

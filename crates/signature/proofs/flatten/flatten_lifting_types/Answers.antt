@@ -1,5 +1,4 @@
 -- Lifting's maximum.
-use borrow.Author.Rules.{rules}
 use Rattle.signature.proofs.flatten.flatten_lifting_types.Goals as goal
 
 pub returns : goal.returns

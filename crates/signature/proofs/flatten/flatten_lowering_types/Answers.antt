@@ -1,5 +1,4 @@
 -- Lowering's maximum.
-use borrow.Author.Rules.{rules}
 use Rattle.signature.proofs.flatten.flatten_lowering_types.Goals as goal
 
 pub returns : goal.returns

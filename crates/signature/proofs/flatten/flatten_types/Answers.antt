@@ -5,7 +5,6 @@ use Rattle.canon.specs.Answer.{refused, then}
 use Rattle.types.specs.Means.{memory_of}
 use Rattle.questions.specs.Means.{gathered_means}
 use Rattle.signature.proofs.Asking.{flatten_gathered, maximum_bad, gathered_whole}
-use borrow.Author.Rules.{rules}
 use Rattle.signature.proofs.flatten.flatten_types.Goals as goal
 
 pub returns-then-max-gt-MAX_FLAT_TYPES : goal.returns-then-max-gt-MAX_FLAT_TYPES

@@ -7,7 +7,6 @@ use Rattle.questions.specs.Means.{two_means}
 use Rattle.signature.specs.Means.{context_means, side_means}
 use Rattle.signature.proofs.Asking.{two_signature, two_whole}
 use Rattle.signature.proofs.Maxima.{functype_packed}
-use borrow.Author.Rules.{rules}
 use Rattle.signature.proofs.functype.flatten_functype.Goals as goal
 
 pub functype_of-requires : goal.functype_of-requires

@@ -1,6 +1,5 @@
 -- By context.
 use Rattle.canon.specs.Functype.{functype_of}
-use borrow.Author.Rules.{rules}
 use Rattle.signature.proofs.functype.functype_of.Goals as goal
 
 pub returns-in-Lift : goal.returns-in-Lift

@@ -1,6 +1,5 @@
 -- An async lift by its callback, a sync one by what `or_pointer` leaves.
 use Rattle.canon.specs.Pack.{pack}
-use borrow.Author.Rules.{rules}
 use Rattle.signature.proofs.functype.lift_results.Goals as goal
 
 pub returns-then-callback : goal.returns-then-callback

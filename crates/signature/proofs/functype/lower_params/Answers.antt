@@ -8,7 +8,6 @@ use Rattle.types.specs.Means.{memory_of}
 use Rattle.flat_types.specs.Lists.{words, flat}
 use Rattle.signature.specs.Means.{side_means}
 use Rattle.signature.proofs.Maxima.{is_listed, is_beyond, pointer_behind}
-use borrow.Author.Rules.{rules}
 use Rattle.signature.proofs.functype.lower_params.Goals as goal
 
 pub or_pointer-passed-requires : goal.or_pointer-passed-requires

@@ -1,6 +1,5 @@
 -- A status, whose words compute, or what `or_nothing` leaves.
 use Rattle.canon.specs.Pack.{pack}
-use borrow.Author.Rules.{rules}
 use Rattle.signature.proofs.functype.lower_results.Goals as goal
 
 pub returns-then-async_ : goal.returns-then-async_

@@ -4,7 +4,6 @@ use Rattle.canon.specs.Signature.{or_pointer}
 use Rattle.types.specs.Means.{memory_of}
 use Rattle.flat_types.specs.Lists.{words, flat}
 use Rattle.signature.proofs.Maxima.{is_listed, is_beyond, pointer_alone}
-use borrow.Author.Rules.{rules}
 use Rattle.signature.proofs.lists.or_pointer.Goals as goal
 
 pub returns-then-list-max : goal.returns-then-list-max

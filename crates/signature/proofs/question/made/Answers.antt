@@ -1,5 +1,4 @@
 -- Arm by arm.
-use borrow.Author.Rules.{rules}
 use Rattle.signature.proofs.question.made.Goals as goal
 
 pub returns-in-AsyncStart : goal.returns-in-AsyncStart

@@ -6,7 +6,6 @@ use Rattle.canon.specs.Answer.{ok, then}
 use Rattle.questions.specs.Means.{two_means}
 use Rattle.signature.specs.Questions.{first_memory, second_memory, made_of}
 use Rattle.signature.proofs.Asking.{two_signature, two_whole, question_two, made_packed}
-use borrow.Author.Rules.{rules}
 use Rattle.signature.proofs.question.signature_of.Goals as goal
 
 pub made-requires : goal.made-requires

@@ -9,7 +9,6 @@ use Rattle.questions.specs.Means.{two_means}
 use Rattle.signature.specs.Means.{side_means}
 use Rattle.signature.proofs.Asking.{two_signature, two_whole}
 use Rattle.signature.proofs.Maxima.{return_packed}
-use borrow.Author.Rules.{rules}
 use Rattle.signature.proofs.signatures.async_return_signature.Goals as goal
 
 pub return_of-requires : goal.return_of-requires

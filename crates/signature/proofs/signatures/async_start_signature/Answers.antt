@@ -7,7 +7,6 @@ use Rattle.questions.specs.Means.{two_means}
 use Rattle.signature.specs.Means.{side_means}
 use Rattle.signature.proofs.Asking.{two_signature, two_whole}
 use Rattle.signature.proofs.Maxima.{start_packed}
-use borrow.Author.Rules.{rules}
 use Rattle.signature.proofs.signatures.async_start_signature.Goals as goal
 
 pub start_of-requires : goal.start_of-requires

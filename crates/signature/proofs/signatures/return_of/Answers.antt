@@ -7,7 +7,6 @@ use Rattle.types.specs.Means.{memory_of}
 use Rattle.flat_types.specs.Lists.{flat}
 use Rattle.canon.proofs.Signatures.{maximum_small, or_pointer_short}
 use Rattle.signature.proofs.Maxima.{pointer_behind}
-use borrow.Author.Rules.{rules}
 use Rattle.signature.proofs.signatures.return_of.Goals as goal
 
 pub or_pointer-params-requires : goal.or_pointer-params-requires

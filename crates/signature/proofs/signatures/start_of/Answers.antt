@@ -2,7 +2,6 @@
 use native.Mathlib.Omega.{arith}
 use Rattle.canon.specs.Signature.{start_of}
 use Rattle.canon.proofs.Signatures.{maximum_small}
-use borrow.Author.Rules.{rules}
 use Rattle.signature.proofs.signatures.start_of.Goals as goal
 
 pub or_pointer-requires : goal.or_pointer-requires

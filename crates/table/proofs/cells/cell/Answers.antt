@@ -1,7 +1,6 @@
 -- The place of a cell is within the table (`place_fits`).
 use lib.ListN.{length}
 use native.Mathlib.Omega.{arith}
-use borrow.Author.Rules.{rules}
 use Rattle.canon.specs.Table.{cell}
 use Rattle.canon.proofs.Cells.{place_fits}
 use Rattle.table.proofs.cells.cell.Goals as goal

@@ -1,10 +1,8 @@
 -- The loop's invariant: what is left to store, stored, makes the whole (`put_step`, `put_none`).
-use lib.ListN.{length, drop, length-set}
-use mathlib.Core.Path.{◌≡◌, refl, sym, ◌∙◌}
-use Prim.Native.Nat.{◌+◌, ◌-◌, ◌≤◌}
-use native.Mathlib.Omega.{arith}
+use lib.ListN.{length, drop}
+use mathlib.Core.Path.{◌≡◌}
+use Prim.Native.Nat.{◌-◌, ◌≤◌}
 use Rattle.canon.specs.Table.{put_from}
-use Rattle.canon.proofs.Cells.{place_fits, put_step, put_none}
 use Rattle.table.proofs.cells.put_cells.Given as goal
 
 abbrev pub invariant-loop-k : goal.invariant-loop-k

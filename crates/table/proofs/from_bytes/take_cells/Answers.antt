@@ -1,10 +1,9 @@
 -- The loop's invariant: what is left to store, stored, makes the whole (`put_step`, `put_none`), as where a row's words are put.
 use mathlib.Core.Path.{◌≡◌, refl, sym, ◌∙◌}
-use mathlib.Core.List.{List}
-use Prim.Native.Nat.{ℕ, ◌+◌, ◌-◌, ◌/◌, ◌≤◌}
+use Prim.Native.Nat.{◌+◌, ◌/◌}
 use native.Mathlib.Omega.{arith}
-use lib.ListN.{length, get_or, drop, length-set}
-use Rattle.canon.specs.Table.{cell, cells_from, put_from}
+use lib.ListN.{length, get_or, length-set}
+use Rattle.canon.specs.Table.{cell}
 use Rattle.canon.proofs.Cells.{place_fits, put_step, put_none, cell_of}
 use Rattle.words.specs.Words.{whole_words}
 use Rattle.table.proofs.Reading.{length_cells}

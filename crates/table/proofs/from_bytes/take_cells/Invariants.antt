@@ -1,13 +1,10 @@
 -- The loop's invariant: what is left to store, stored, makes the whole (`put_step`, `put_none`), as where a row's words are put.
-use mathlib.Core.Path.{◌≡◌, refl, sym, ◌∙◌}
+use mathlib.Core.Path.{◌≡◌}
 use mathlib.Core.List.{List}
-use Prim.Native.Nat.{ℕ, ◌+◌, ◌-◌, ◌/◌, ◌≤◌}
-use native.Mathlib.Omega.{arith}
-use lib.ListN.{length, get_or, drop, length-set}
-use Rattle.canon.specs.Table.{cell, cells_from, put_from}
-use Rattle.canon.proofs.Cells.{place_fits, put_step, put_none, cell_of}
+use Prim.Native.Nat.{ℕ, ◌-◌, ◌≤◌}
+use lib.ListN.{length, drop}
+use Rattle.canon.specs.Table.{cells_from, put_from}
 use Rattle.words.specs.Words.{whole_words}
-use Rattle.table.proofs.Reading.{length_cells}
 use Rattle.table.proofs.from_bytes.take_cells.Given as goal
 
 -- the cells that are taken

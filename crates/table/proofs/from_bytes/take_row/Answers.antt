@@ -6,7 +6,6 @@ use Rattle.words.proofs.Laws.{length_whole}
 use Rattle.table.specs.Rows.{row_in}
 use Rattle.table.proofs.Reading.{row_there, row_missing, put_there, put_missing}
 use Rattle.table.proofs.Putting.{put_nothing}
-use borrow.Author.Rules.{rules}
 use Rattle.table.proofs.from_bytes.take_row.Goals as goal
 
 pub returns-then-row-room : goal.returns-then-row-room

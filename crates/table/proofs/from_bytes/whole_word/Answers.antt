@@ -2,7 +2,6 @@
 use mathlib.Core.Path.{sym, ◌∙◌}
 use Rattle.words.specs.Words.{word_at}
 use Rattle.words.proofs.Laws.{whole_at}
-use borrow.Author.Rules.{rules}
 use Rattle.table.proofs.from_bytes.whole_word.Goals as goal
 
 pub returns : goal.returns

@@ -1,7 +1,6 @@
 -- String, or as many bytes as its halvings leave.
 use borrow.Author.Tests.{ne_eqb}
 use Rattle.table.proofs.References.{string_is, halved_is}
-use borrow.Author.Rules.{rules}
 use Rattle.table.proofs.plain.layouts.Goals as goal
 
 pub returns-then-reference-eq-STRING : goal.returns-then-reference-eq-STRING

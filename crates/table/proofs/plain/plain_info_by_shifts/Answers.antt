@@ -4,7 +4,6 @@ use Rattle.canon.specs.Types.{plain}
 use Rattle.canon.specs.Question.{plain_info}
 use Rattle.flat_types.proofs.References.{past}
 use Rattle.table.proofs.References.{plain_is}
-use borrow.Author.Rules.{rules}
 use Rattle.table.proofs.plain.plain_info_by_shifts.Goals as goal
 
 pub returns-then-reference-gt-LAST : goal.returns-then-reference-gt-LAST

@@ -5,7 +5,6 @@ use borrow.Author.Tests.{le-leb, lt-leb}
 use Rattle.canon.specs.Layout.{Both, Layout}
 use Rattle.canon.specs.Row.{good_layout}
 use Rattle.table.specs.Rows.{good_first_words}
-use borrow.Author.Rules.{rules}
 use Rattle.table.proofs.read.good_first_words.Goals as goal
 
 abbrev good_layouts : Both Layout → Bool

@@ -7,7 +7,6 @@ use Rattle.canon.specs.Layout.{Both}
 use Rattle.canon.specs.Row.{count_of, good_count, unused_zero}
 use Rattle.flat_types.specs.Lists.{good_flat}
 use Rattle.table.specs.Rows.{good_later_words}
-use borrow.Author.Rules.{rules}
 use Rattle.table.proofs.read.good_later_words.Goals as goal
 
 abbrev good_types : Option ℕ → Both ℕ → Bool

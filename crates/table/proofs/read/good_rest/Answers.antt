@@ -1,7 +1,6 @@
 -- The discriminant, then the reach.
 use Rattle.canon.specs.Row.{is_discriminant}
 use Rattle.table.proofs.Reading.{discriminant_is, discriminant_over}
-use borrow.Author.Rules.{rules}
 use Rattle.table.proofs.read.good_rest.Goals as goal
 
 pub returns-then-discriminant-eq3 : goal.returns-then-discriminant-eq3

@@ -1,7 +1,6 @@
 -- Half by half (`good_halves`).
 use Rattle.table.specs.Rows.{row_in}
 use Rattle.table.proofs.Reading.{good_halves}
-use borrow.Author.Rules.{rules}
 use Rattle.table.proofs.read.is_good_row.Goals as goal
 
 pub returns-then-good_first_words : goal.returns-then-good_first_words

@@ -1,5 +1,4 @@
 -- Part by part.
-use borrow.Author.Rules.{rules}
 use Rattle.table.proofs.read.row_info.Goals as goal
 
 pub returns : goal.returns

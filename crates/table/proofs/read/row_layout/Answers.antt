@@ -1,5 +1,4 @@
 -- Each arm takes its memory.
-use borrow.Author.Rules.{rules}
 use Rattle.table.proofs.read.row_layout.Goals as goal
 
 pub returns-in-Memory32 : goal.returns-in-Memory32

@@ -1,5 +1,4 @@
 -- Word by word.
-use borrow.Author.Rules.{rules}
 use Rattle.table.proofs.read.row_layouts.Goals as goal
 
 pub returns : goal.returns

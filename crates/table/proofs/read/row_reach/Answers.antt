@@ -1,5 +1,4 @@
 -- The word as it stands.
-use borrow.Author.Rules.{rules}
 use Rattle.table.proofs.read.row_reach.Goals as goal
 
 pub returns : goal.returns

@@ -4,7 +4,6 @@ use native.Mathlib.Omega.{arith}
 use Rattle.canon.specs.Pack.{Packed}
 use Rattle.flat_types.specs.Lists.{halves}
 use Rattle.table.proofs.Reading.{halves_whole}
-use borrow.Author.Rules.{rules}
 use Rattle.table.proofs.read.row_types.Goals as goal
 
 pub returns : goal.returns

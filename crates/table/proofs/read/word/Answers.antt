@@ -1,6 +1,5 @@
 -- A row that is there is of its cells (`word_there`); else there is no word.
 use Rattle.table.proofs.Reading.{row_missing, word_there}
-use borrow.Author.Rules.{rules}
 use Rattle.table.proofs.read.word.Goals as goal
 
 pub returns-then-row-room : goal.returns-then-row-room

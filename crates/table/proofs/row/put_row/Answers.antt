@@ -5,7 +5,6 @@ use Prim.Native.Nat.{ℕ}
 use Rattle.canon.specs.Table.{put_from}
 use Rattle.table.specs.Means.{row_means}
 use Rattle.table.proofs.Reading.{put_there, put_missing}
-use borrow.Author.Rules.{rules}
 use Rattle.table.proofs.row.put_row.Goals as goal
 
 pub returns-then-at-room : goal.returns-then-at-room

@@ -1,5 +1,4 @@
 -- The words in their order.
-use borrow.Author.Rules.{rules}
 use Rattle.table.proofs.row.row_words.Goals as goal
 
 pub returns : goal.returns

@@ -1,12 +1,12 @@
 -- The loop's invariant: what is left of the row, put into the bytes, makes the whole (`give_turn`, `give_end`).
-use lib.ListN.{length, get_or, set}
-use mathlib.Core.Path.{◌≡◌, refl, sym, ap, ◌∙◌}
-use Prim.Native.Nat.{ℕ, ◌+◌, ◌-◌, ◌≤◌, ◌<◌}
+use lib.ListN.{set}
+use mathlib.Core.Path.{refl, sym, ap, ◌∙◌}
+use Prim.Native.Nat.{ℕ, ◌+◌}
 use native.Mathlib.Nat.{zero-add}
 use native.Mathlib.Omega.{arith}
 use Rattle.canon.specs.Table.{cell, cells_from}
 use Rattle.words.specs.Words.{whole_words, put_words}
-use Rattle.table.proofs.Giving.{left_into, give_turn, give_end}
+use Rattle.table.proofs.Giving.{give_turn, give_end}
 use Rattle.canon.proofs.Cells.{cells_at}
 use Rattle.table.proofs.to_bytes.give_cells.Goals as goal
 

@@ -1,6 +1,5 @@
 -- The cells of the row in the bytes; nothing where there is no such row or no room.
 use mathlib.Core.Path.{◌∙◌}
-use borrow.Author.Rules.{rules}
 use Rattle.table.proofs.Giving.{give_there, give_full, give_none}
 use Rattle.table.proofs.to_bytes.give_row.Goals as goal
 

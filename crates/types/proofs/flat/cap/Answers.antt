@@ -1,6 +1,5 @@
 -- The test picks the case.
 use borrow.Author.Tests.{le-leb, lt-leb}
-use borrow.Author.Rules.{rules}
 use Rattle.types.proofs.flat.cap.Goals as goal
 
 pub returns-then-n : goal.returns-then-n

@@ -13,7 +13,6 @@ use Rattle.canon.proofs.Rounding.{alignment_tested}
 use Rattle.types.specs.Means.{layout_means}
 use Rattle.types.proofs.ExtentLaws.{member_fits}
 use Rattle.types.proofs.AnswerLaws.{field_step}
-use borrow.Author.Rules.{rules}
 use Rattle.types.proofs.info.field_after.Goals as goal
 
 -- what the test says of the end, and so of the start

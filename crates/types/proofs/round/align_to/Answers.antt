@@ -8,7 +8,6 @@ use borrow.Author.Tests.{le-ltb, lt-ltb}
 use Rattle.types.specs.Leaves.{given, fitting, align_to}
 use Rattle.types.specs.declared.round.RoundedUp.{RoundedUp}
 use Rattle.types.proofs.RoundLaws.{rounded_aligned}
-use borrow.Author.Rules.{rules}
 use Rattle.canon.proofs.Rounding.{Alignment, alignment_tested}
 use Rattle.types.proofs.round.align_to.Goals as goal
 

@@ -1,7 +1,6 @@
 -- The alignments are bits of one number.
 use mathlib.Core.Path.{sym}
 use Rattle.types.proofs.RoundLaws.{alignment_bit, alignment_small}
-use borrow.Author.Rules.{rules}
 use Rattle.types.proofs.round.is_alignment.Goals as goal
 
 pub returns-then-a-le8 : goal.returns-then-a-le8

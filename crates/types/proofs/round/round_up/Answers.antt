@@ -6,7 +6,6 @@ use native.Mathlib.Omega.{arith}
 use Rattle.canon.specs.Layout.{round_up}
 use Rattle.types.specs.Extents.{unit_of, rounded}
 use Rattle.types.proofs.RoundLaws.{alignment_most, unit_alignment, unit_pos, none_skipped, lack_skipped, filled, skipped_most}
-use borrow.Author.Rules.{rules}
 use Rattle.types.proofs.round.round_up.Goals as goal
 use Rattle.types.proofs.round.round_up.Goals.{then-rest-eq0, else-rest-eq0}
 

@@ -1,6 +1,5 @@
 -- The four bytes make the word by its definition.
 use Rattle.words.specs.Words.{word_at}
-use borrow.Author.Rules.{rules}
 use Rattle.words.proofs.reading.four_bytes.Goals as goal
 
 pub returns : goal.returns

@@ -1,5 +1,4 @@
 -- Each byte as wide as a word, in its place.
-use borrow.Author.Rules.{rules}
 use Rattle.words.proofs.reading.from_le_bytes.Goals as goal
 
 pub returns : goal.returns

@@ -1,6 +1,5 @@
 -- A whole word, or 0 past the last.
 use mathlib.Core.Path.{sym, ◌∙◌}
-use borrow.Author.Rules.{rules}
 use Rattle.words.proofs.Laws.{whole_at, whole_past}
 use Rattle.words.proofs.reading.word_at.Goals as goal
 

@@ -1,11 +1,8 @@
 -- The loop's invariant: the words so far, then what the buffer had (`read_turn`).
-use mathlib.Core.Path.{◌≡◌, refl}
-use mathlib.Core.List.{◌++◌}
-use Prim.Native.Nat.{◌-◌, ◌≤◌}
+use mathlib.Core.Path.{refl}
 use native.Mathlib.Nat.{le_antisymm}
-use lib.ListN.{length, take, drop, length-set}
+use lib.ListN.{length-set}
 use borrow.Author.Rules.{rules}
-use Rattle.words.specs.Words.{whole_words}
 use Rattle.words.proofs.Laws.{read_turn}
 use Rattle.words.proofs.reading.words_of.Goals as goal
 

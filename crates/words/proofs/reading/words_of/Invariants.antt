@@ -1,12 +1,9 @@
 -- The loop's invariant: the words so far, then what the buffer had (`read_turn`).
-use mathlib.Core.Path.{◌≡◌, refl}
+use mathlib.Core.Path.{◌≡◌}
 use mathlib.Core.List.{◌++◌}
 use Prim.Native.Nat.{◌-◌, ◌≤◌}
-use native.Mathlib.Nat.{le_antisymm}
-use lib.ListN.{length, take, drop, length-set}
-use borrow.Author.Rules.{rules}
+use lib.ListN.{length, take, drop}
 use Rattle.words.specs.Words.{whole_words}
-use Rattle.words.proofs.Laws.{read_turn}
 use Rattle.words.proofs.reading.words_of.Given as goal
 
 abbrev pub invariant-loop-k : goal.invariant-loop-k

@@ -1,7 +1,6 @@
 -- A word put is all of them put, this one changed (`put_one`); past the last nothing is (`put_past`).
 use mathlib.Core.Path.{◌∙◌}
 use native.Mathlib.Omega.{arith}
-use borrow.Author.Rules.{rules}
 use Rattle.words.proofs.Laws.{put_one, put_past}
 use Rattle.words.proofs.writing.put_word_at.Goals as goal
 

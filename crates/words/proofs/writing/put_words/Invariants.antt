@@ -1,9 +1,7 @@
 -- What is left of the words, put from here on, gives what all of them give.
 use lib.ListN.{length, take, drop}
 use Prim.Native.Nat.{◌/◌, ◌≤◌, ◌-◌}
-use borrow.Author.Rules.{rules}
-use mathlib.Core.Path.{◌≡◌, refl, ap, ◌∙◌}
-use Rattle.words.proofs.Laws.{length_put, write_turn, write_end}
+use mathlib.Core.Path.{◌≡◌}
 use Rattle.words.specs.Words.{put_words}
 use Rattle.words.proofs.writing.put_words.Given as goal
 

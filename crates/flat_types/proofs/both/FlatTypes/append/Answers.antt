@@ -1,7 +1,6 @@
 -- The words of both memories are appended as one.
 use mathlib.Core.Path.{ap₂, ◌∙◌}
 use Rattle.flat_types.specs.Places.{append_to}
-use borrow.Author.Rules.{rules}
 use Rattle.flat_types.proofs.both.FlatTypes.append.Goals as goal
 
 pub returns : goal.returns

@@ -2,7 +2,6 @@
 use mathlib.Core.Path.{refl}
 use mathlib.Core.Option.{some}
 use native.Mathlib.Omega.{arith}
-use borrow.Author.Rules.{rules}
 use Rattle.canon.specs.Flat.{flags_flat}
 use Rattle.flat_types.proofs.Listing.{holds, holds_none, flags_none, flags_is}
 use Rattle.flat_types.proofs.both.FlatTypes.flags.Goals as goal

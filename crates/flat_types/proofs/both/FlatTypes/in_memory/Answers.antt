@@ -1,5 +1,4 @@
 -- Each arm reads its memory.
-use borrow.Author.Rules.{rules}
 use Rattle.flat_types.proofs.both.FlatTypes.in_memory.Goals as goal
 
 pub returns-in-Memory32 : goal.returns-in-Memory32

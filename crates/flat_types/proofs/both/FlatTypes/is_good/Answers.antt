@@ -2,7 +2,6 @@
 use mathlib.Core.Path.{◌∙◌}
 use native.Mathlib.Omega.{arith}
 use Rattle.flat_types.proofs.Listing.{bad_flat, good_flat_lem}
-use borrow.Author.Rules.{rules}
 use Rattle.flat_types.proofs.both.FlatTypes.is_good.Goals as goal
 
 pub returns-then-count-gt-MAX_FLAT_TYPES : goal.returns-then-count-gt-MAX_FLAT_TYPES

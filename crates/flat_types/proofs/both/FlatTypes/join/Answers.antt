@@ -3,7 +3,6 @@ use native.Mathlib.Omega.{arith}
 use borrow.Author.Tests.{le-leb, lt-leb}
 use Prim.Native.Nat.{max}
 use Rattle.flat_types.specs.Places.{joined}
-use borrow.Author.Rules.{rules}
 use Rattle.flat_types.proofs.both.FlatTypes.join.Goals as goal
 
 pub returns-then-count-gt-MAX_FLAT_TYPES : goal.returns-then-count-gt-MAX_FLAT_TYPES

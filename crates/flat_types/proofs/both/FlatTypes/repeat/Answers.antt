@@ -7,7 +7,6 @@ use Rattle.canon.specs.Layout.{mem32, within}
 use Rattle.canon.specs.Pack.{pack, unpack}
 use Rattle.flat_types.specs.Lists.{halves, words_in}
 use Rattle.flat_types.proofs.Listing.{holds, holds_none, one_none, repeat_none, repeat_is, repeat_fits}
-use borrow.Author.Rules.{rules}
 use Rattle.flat_types.proofs.both.FlatTypes.repeat.Goals as goal
 
 pub returns-then-m-gt-MAX_FLAT_TYPES : goal.returns-then-m-gt-MAX_FLAT_TYPES

@@ -1,5 +1,4 @@
 -- At most 16 types.
-use borrow.Author.Rules.{rules}
 use Rattle.flat_types.proofs.list.FlatList.append.Goals as goal
 
 pub returns : goal.returns

@@ -4,7 +4,6 @@ use borrow.Author.Tests.{le-leb, lt-leb}
 use Prim.Native.Nat.{◌+◌}
 use Rattle.flat_types.specs.Places.{append_to}
 use Rattle.flat_types.proofs.Masks.{pow4}
-use borrow.Author.Rules.{rules}
 use Rattle.flat_types.proofs.list.FlatList.append_to.Goals as goal
 
 pub returns-then-sum-max : goal.returns-then-sum-max

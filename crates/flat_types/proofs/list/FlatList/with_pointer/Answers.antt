@@ -3,7 +3,6 @@ use mathlib.Core.Path.{ap, ◌∙◌}
 use Prim.Native.Nat.{ℕ}
 use Rattle.flat_types.specs.Lists.{words}
 use Rattle.flat_types.specs.Places.{append_to}
-use borrow.Author.Rules.{rules}
 use Rattle.flat_types.proofs.list.FlatList.with_pointer.Goals as goal
 
 pub returns : goal.returns

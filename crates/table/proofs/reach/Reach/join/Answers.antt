@@ -2,7 +2,6 @@
 use mathlib.Core.Path.{ap}
 use Prim.Native.Nat.{ℕ}
 use native.Mathlib.Omega.{arith}
-use borrow.Author.Rules.{rules}
 use Rattle.canon.specs.Reach.{word_reach}
 use Rattle.canon.proofs.Reaches.{word_join}
 use Rattle.table.proofs.reach.Reach.join.Goals as goal

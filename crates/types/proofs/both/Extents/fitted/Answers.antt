@@ -4,7 +4,6 @@ use mathlib.Core.Path.{sym, ◌∙◌}
 use borrow.Author.Tests.{ltb-false}
 use Rattle.canon.specs.Layout.{largest_number}
 use Rattle.types.specs.Extents.{fitted_of}
-use borrow.Author.Rules.{rules}
 use Rattle.types.proofs.both.Extents.fitted.Goals as goal
 
 pub returns-then-is_large : goal.returns-then-is_large

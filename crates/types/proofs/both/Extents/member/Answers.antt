@@ -1,5 +1,4 @@
 -- The two memories call by call.
-use borrow.Author.Rules.{rules}
 use Rattle.types.proofs.both.Extents.member.Goals as goal
 
 pub returns : goal.returns

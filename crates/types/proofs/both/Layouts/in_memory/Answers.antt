@@ -1,5 +1,4 @@
 -- The memory picks the layout.
-use borrow.Author.Rules.{rules}
 use Rattle.types.proofs.both.Layouts.in_memory.Goals as goal
 
 pub returns-in-Memory32 : goal.returns-in-Memory32

@@ -1,5 +1,4 @@
 -- Test by test.
-use borrow.Author.Rules.{rules}
 use Rattle.types.proofs.both.Layouts.is_good.Goals as goal
 
 pub returns-then-is_good : goal.returns-then-is_good

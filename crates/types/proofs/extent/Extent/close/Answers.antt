@@ -1,7 +1,6 @@
 -- From what `closing` ensures.
 use mathlib.Core.Path.{ap}
 use Rattle.types.specs.declared.extent.Step.{Step}
-use borrow.Author.Rules.{rules}
 use Rattle.types.proofs.extent.Extent.close.Goals as goal
 
 pub returns : goal.returns

@@ -1,6 +1,5 @@
 -- From what `member` ensures.
 use Rattle.types.specs.Extents.{closing}
-use borrow.Author.Rules.{rules}
 use Rattle.types.proofs.extent.Extent.closing.Goals as goal
 
 pub returns : goal.returns

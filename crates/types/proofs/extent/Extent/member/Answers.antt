@@ -4,7 +4,6 @@ use native.Mathlib.Omega.{arith}
 use Rattle.types.specs.Extents.{member_of, extent_at}
 use Rattle.types.specs.declared.round.RoundedUp.{RoundedUp}
 use Rattle.types.proofs.RoundLaws.{rounded_between}
-use borrow.Author.Rules.{rules}
 use Rattle.types.proofs.extent.Extent.member.Goals as goal
 
 pub overflow_add-end : goal.overflow_add-end

@@ -1,6 +1,5 @@
 -- The discriminant, the step and the close, call by call.
 use Rattle.types.specs.Extents.{variant_step}
-use borrow.Author.Rules.{rules}
 use Rattle.types.proofs.extent.Extent.variant.Goals as goal
 
 pub returns : goal.returns

@@ -7,7 +7,6 @@ use native.Mathlib.Omega.{arith}
 use Rattle.canon.specs.Row.{is_alignment, good_layout}
 use Rattle.canon.proofs.Rounding.{alignment_pos, Alignment, alignment_tested}
 use Rattle.types.proofs.RoundLaws.{mask_rest}
-use borrow.Author.Rules.{rules}
 use Rattle.types.proofs.extent.Layout.is_good.Goals as goal
 
 -- what the test says

@@ -1,5 +1,4 @@
 -- From what `max` ensures.
-use borrow.Author.Rules.{rules}
 use Rattle.types.proofs.extent.Layout.widest.Goals as goal
 
 pub returns : goal.returns

@@ -1,7 +1,6 @@
 -- A scalar of the discriminant's size is a variant without payloads.
 use Rattle.canon.specs.Answer.{and_then}
 use Rattle.types.proofs.AnswerLaws.{enum_answer_lem}
-use borrow.Author.Rules.{rules}
 use Rattle.types.proofs.info.CanonicalAbiInfo.enum_.Goals as goal
 
 pub returns-in-Size : goal.returns-in-Size

@@ -1,7 +1,6 @@
 -- Each answer by what fits.
 use Rattle.canon.specs.Answer.{and_then}
 use Rattle.types.specs.States.{fitted_abi}
-use borrow.Author.Rules.{rules}
 use Rattle.types.proofs.info.CanonicalAbiInfo.fitted.Goals as goal
 
 pub returns-in-Layouts : goal.returns-in-Layouts

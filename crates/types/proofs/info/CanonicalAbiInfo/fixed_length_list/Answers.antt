@@ -2,7 +2,6 @@
 use mathlib.Core.Path.{sym, ◌∙◌}
 use Rattle.types.specs.Leaves.{given, fixed_answer}
 use Rattle.types.proofs.AnswerLaws.{fixed_answer_lem}
-use borrow.Author.Rules.{rules}
 use Rattle.types.proofs.info.CanonicalAbiInfo.fixed_length_list.Goals as goal
 
 pub returns-then-is_good : goal.returns-then-is_good

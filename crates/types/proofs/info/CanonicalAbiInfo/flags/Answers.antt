@@ -1,6 +1,5 @@
 -- Each answer by the tests that lead to it.
 use native.Mathlib.Omega.{arith}
-use borrow.Author.Rules.{rules}
 use borrow.Author.Tests.{le-leb, lt-leb}
 use Rattle.canon.specs.Layout.{most_flags}
 use Rattle.canon.proofs.Counts.{one_group, flags_stop}

@@ -1,12 +1,10 @@
 -- Test by test.
-use mathlib.Core.Path.{◌≡◌, ap, ◌∙◌}
+use mathlib.Core.Path.{◌≡◌, ◌∙◌}
 use mathlib.Core.Bool.{Bool, ◌&&◌, and_assoc}
-use Rattle.canon.specs.Layout.{Both, Layout}
 use Rattle.types.specs.declared.both.Layouts.{Layouts}
 use Rattle.types.specs.declared.info.CanonicalAbiInfo.{CanonicalAbiInfo}
 use Rattle.canon.specs.Row.{good_layout, good_abi}
-use Rattle.types.specs.Means.{layout_means, layouts_means, abi_means}
-use borrow.Author.Rules.{rules}
+use Rattle.types.specs.Means.{layout_means, abi_means}
 use Rattle.types.proofs.info.CanonicalAbiInfo.is_good.Goals as goal
 
 -- what the test of the layouts asks of the info

@@ -4,7 +4,6 @@ use Rattle.canon.specs.Layout.{Layout}
 use Rattle.canon.proofs.Rounding.{alignment_test, abi_tested}
 use Rattle.types.specs.Leaves.{given, next_field}
 use Rattle.types.specs.Means.{memory_of, abi_means}
-use borrow.Author.Rules.{rules}
 use Rattle.types.proofs.info.CanonicalAbiInfo.next_field.Goals as goal
 
 pub field_after-requires : goal.field_after-requires

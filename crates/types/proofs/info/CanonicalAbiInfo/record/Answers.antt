@@ -2,7 +2,6 @@
 use mathlib.Core.Path.{◌∙◌}
 use Rattle.types.specs.Leaves.{given}
 use Rattle.types.specs.States.{close_fields}
-use borrow.Author.Rules.{rules}
 use Rattle.types.proofs.info.CanonicalAbiInfo.record.Goals as goal
 
 pub returns-then-fields : goal.returns-then-fields

@@ -1,14 +1,12 @@
 -- A turn takes the next info off what is left; at the end nothing is left (`record_answer_lem`).
-use mathlib.Core.Path.{◌≡◌, refl, sym, ap, ◌∙◌}
-use mathlib.Core.List.{map}
+use mathlib.Core.Path.{◌∙◌}
 use native.Mathlib.Numerals.{add-one}
 use lib.Seq.{drop-cons}
 use Rattle.types.specs.declared.info.CanonicalAbiInfo.{CanonicalAbiInfo}
 use Rattle.types.specs.declared.flat.FlatCount.TheVariants.{Count}
 use lib.ListN.{drop_of_length-le}
 use native.Mathlib.Omega.{arith}
-use Rattle.types.specs.Means.{abi_means}
-use Rattle.types.specs.States.{add_fields, close_fields}
+use Rattle.types.specs.States.{add_fields}
 use Rattle.types.proofs.RecordLaws.{record_answer_lem}
 use Rattle.types.proofs.info.CanonicalAbiInfo.record_static.Goals as goal
 

@@ -1,6 +1,5 @@
 -- From what `VariantInfo::new` ensures.
 use Rattle.types.specs.Leaves.{info_alone}
-use borrow.Author.Rules.{rules}
 use Rattle.types.proofs.info.CanonicalAbiInfo.variant.Goals as goal
 
 pub returns-in-Variant : goal.returns-in-Variant

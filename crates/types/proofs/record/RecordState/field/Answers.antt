@@ -1,6 +1,5 @@
 -- The step in both memories, call by call.
 use Rattle.types.specs.States.{add_field}
-use borrow.Author.Rules.{rules}
 use Rattle.types.proofs.record.RecordState.field.Goals as goal
 
 pub returns : goal.returns

@@ -3,7 +3,6 @@ use mathlib.Core.Path.{◌∙◌}
 use Rattle.canon.specs.Answer.{and_then}
 use Rattle.types.specs.Leaves.{given}
 use Rattle.types.specs.States.{close_cases}
-use borrow.Author.Rules.{rules}
 use Rattle.types.proofs.variant.VariantInfo.new.Goals as goal
 
 pub returns-then-cases : goal.returns-then-cases

@@ -4,12 +4,10 @@ use Rattle.types.specs.declared.both.Fitted.{Fitted}
 use Rattle.types.specs.declared.both.Steps.{Steps}
 use native.Mathlib.Omega.{arith}
 use Rattle.canon.specs.Answer.{and_then}
-use Rattle.canon.specs.Layout.{both, within}
-use Rattle.types.specs.Means.{bytes_of, layout_means, layouts_means, extents_means, fitted_means}
-use Rattle.types.specs.Extents.{variant_step, fitted_of}
+use Rattle.types.specs.Means.{layout_means, extents_means, fitted_means}
+use Rattle.types.specs.Extents.{fitted_of}
 use Rattle.types.specs.States.{sized_cases}
 use Rattle.types.proofs.VariantLaws.{variant_fits}
-use borrow.Author.Rules.{rules}
 use Rattle.types.proofs.variant.VariantInfo.sized.Goals as goal
 
 -- what fits is canon's extents

@@ -1,6 +1,5 @@
 -- From what `one_more_lem` ensures.
 use Rattle.types.specs.States.{add_case}
-use borrow.Author.Rules.{rules}
 use Rattle.types.proofs.variant.VariantState.bare.Goals as goal
 
 pub returns : goal.returns

@@ -1,6 +1,5 @@
 -- The greater in both memories, call by call.
 use Rattle.types.specs.States.{add_case}
-use borrow.Author.Rules.{rules}
 use Rattle.types.proofs.variant.VariantState.payload.Goals as goal
 
 pub returns : goal.returns
