@@ -32,17 +32,23 @@ skipped_below x a h = omega (arith, div-mul-le_self (x + (a - 1)) a)
 
 -- Of members
 
--- as many as members
-pub gaps_length : (e : ℕ) (fs : List Layout) → length (gaps e fs) ≡ length fs
+-- as many as members, wherever the first begins
+every_length : (fs : List Layout) (e : ℕ) → length (gaps e fs) ≡ length fs
 unfolding gaps
-gaps_length e [] = refl
-gaps_length e (f ∷ fs) = ap suc (gaps_length (end_after e f) fs)
+every_length [] e = refl
+every_length (f ∷ fs) e = ap suc (every_length fs _)
+
+pub gaps_length : (e : ℕ) (fs : List Layout) → length (gaps e fs) ≡ length fs
+gaps_length e fs = every_length fs e
 
 -- each is below its member's alignment
-pub gaps_below : (e : ℕ) (fs : List Layout) → Aligned fs → Forall₂ (λ g f. g < f.align) (gaps e fs) fs
+every_below : (fs : List Layout) (e : ℕ) → Aligned fs → Forall₂ (λ g f. g < f.align) (gaps e fs) fs
 unfolding gaps
-gaps_below e [] w = empty
-gaps_below e (f ∷ fs) w = pair (skipped_below e f.align (alignment_pos w.0)) (gaps_below (end_after e f) fs w.1)
+every_below [] e w = empty
+every_below (f ∷ fs) e w = pair (skipped_below e f.align (alignment_pos w.0)) (every_below fs _ w.1)
+
+pub gaps_below : (e : ℕ) (fs : List Layout) → Aligned fs → Forall₂ (λ g f. g < f.align) (gaps e fs) fs
+gaps_below e fs w = every_below fs e w
 
 -- nothing is skipped before the first of all
 pub first_gap : (f : Layout) (fs : List Layout) → Alignment f.align → get_or (gaps 0 (f ∷ fs)) 0 0 ≡ 0

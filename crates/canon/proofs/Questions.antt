@@ -256,10 +256,13 @@ placing_starts m t n ws room p = go (too_many ws) (no_table t n) (ltb room (leng
 
 -- as many offsets as references
 
-pub starts_length : (e : ℕ) (fs : List Layout) → length (starts e fs) ≡ length fs
+every_start : (fs : List Layout) (e : ℕ) → length (starts e fs) ≡ length fs
 unfolding starts
-starts_length e [] = refl
-starts_length e (f ∷ fs) = ap suc (starts_length (end_after e f) fs)
+every_start [] e = refl
+every_start (f ∷ fs) e = ap suc (every_start fs _)
+
+pub starts_length : (e : ℕ) (fs : List Layout) → length (starts e fs) ≡ length fs
+starts_length e fs = every_start fs e
 
 pub offsets_length : (m : Memory) (t : List ℕ) (n : ℕ) (ws : List ℕ) (room : ℕ) (p : Placing) → placing m t n ws room ≡ ok p → length p.offsets ≡ length ws
 offsets_length m t n ws room p e =

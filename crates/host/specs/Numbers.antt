@@ -118,7 +118,7 @@ abbrev pub build_call : List ℕ → List ℕ → ℕ
 build_call ws t = build_number (build_answer ws t) (build_reads ws t)
 
 -- a placement: "the size in bits 0 to 31, the alignment in bits 32 to 35, the gap after the last member in bits 36 to 39, the rows read back in bits 40 to 55"
--- layout and gap are accepted or refused together (canon/proofs/Gaps.placement-padded)
+-- layout and gap are accepted or refused together (canon/proofs/Gaps.placement_padded)
 abbrev pub placement_number : Answer Layout → ℕ → Answer ℕ → ℕ
 placement_number a reads gap = answer_number itself (then a (λ f. then gap (λ after. ok (2 ^ 40 * reads + 2 ^ 36 * after + layout_number f))))
 

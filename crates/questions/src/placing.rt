@@ -207,11 +207,11 @@ pub fn placement(
     out: &mut [u32],
     gaps: &mut [u32],
 ) -> PlacementAnswer
-    ensures result_value { placement_means result ≡ placement_answer (memory_of memory) table.now n references.now (room_of out.old gaps.old) }
+    ensures answer { placement_means result ≡ placement_answer (memory_of memory) table.now n references.now (room_of out.old gaps.old) }
     ensures out_after { out.new ≡ offsets_after (memory_of memory) table.now n references.now (room_of out.old gaps.old) out.old }
-    ensures result_value_2 { whole_reads result ≡ placement_reads (memory_of memory) table.now n references.now (room_of out.old gaps.old) }
+    ensures reads { whole_reads result ≡ placement_reads (memory_of memory) table.now n references.now (room_of out.old gaps.old) }
     ensures gaps_after { gaps.new ≡ gaps_after (memory_of memory) table.now n references.now (room_of out.old gaps.old) gaps.old }
-    ensures result_value_3 { after_means result ≡ after_answer (memory_of memory) table.now n references.now (room_of out.old gaps.old) }
+    ensures after { after_means result ≡ after_answer (memory_of memory) table.now n references.now (room_of out.old gaps.old) }
 {
     if too_many(references) {
         return PlacementAnswer::Refused(Refusal::TooLong, MemberPosition(0));

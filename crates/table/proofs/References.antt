@@ -69,12 +69,12 @@ reached k h = same_below 18 (λ i. map_option reach (get_elem? plain i)) (λ i. 
 
 -- there is a type for each
 pub there : (k : ℕ) → k ≤ 17 → (t : Ty) × (get_elem? plain k ≡ some t)
-there k h = go (get_elem? plain k) (getElem?-there plain k (omega arith))
+there k h = go (get_elem? plain k) (none_there plain k (omega arith))
   where
-    getElem?-there : (ts : List Ty) (j : ℕ) → j < length ts → get_elem? ts j ≡ none → ⊥
-    getElem?-there [] j l e = omega arith
-    getElem?-there (u ∷ ts) zero l e = let z : ◌≡◌ {A = ℕ} 0 1 = cc in omega arith
-    getElem?-there (u ∷ ts) (suc j) l e = getElem?-there ts j (omega arith) e
+    none_there : (ts : List Ty) (j : ℕ) → j < length ts → get_elem? ts j ≡ none → ⊥
+    none_there [] j l e = omega arith
+    none_there (u ∷ ts) zero l e = let z : ◌≡◌ {A = ℕ} 0 1 = cc in omega arith
+    none_there (u ∷ ts) (suc j) l e = none_there ts j (omega arith) e
 
     go : (o : Option Ty) → (o ≡ none → ⊥) → (t : Ty) × (o ≡ some t)
     go none n = absurd (n refl)

@@ -27,7 +27,7 @@ pub record RowTypes (f : FlatTypes) (r : List ℕ) : Type 0 where
   pub count : f.count ≡ word r 5
   pub flats : halves f.words ≡ row_flats r
 
--- The good form in two halves, in the order of 01's rules: together they are canon's `is_good` (proofs/Reading.good-halves)
+-- The good form in two halves, in the order of 01's rules: together they are canon's `is_good` (proofs/Reading.good_halves)
 
 -- "kind is 1 to 10; alignments are 1, 2, 4 or 8; each size is a multiple of its alignment"
 unfoldable pub good_first_words : List ℕ → Bool

@@ -8,4 +8,3 @@ pub mod Runs
 pub mod Told
 pub mod Unique
 pub mod Promises
-mod Fold

@@ -15,14 +15,14 @@ pub returns-then-too_many : goal.returns-then-too_many
 unfolding placement_reads placement_answer offsets_after placing after_answer padding ask unless then buffer_after
 returns-then-too_many c =
     let e = sym c.too_many.ensures ∙ c.if-too_many.true in
-    record { result_value = rw e; out_after = rw e; result_value_2 = rw e; gaps_after = rw e; result_value_3 = rw e }
+    record { answer = rw e; out_after = rw e; reads = rw e; gaps_after = rw e; after = rw e }
 
 pub returns-then-no_table : goal.returns-then-no_table
 unfolding placement_reads placement_answer offsets_after placing after_answer padding ask unless then buffer_after
 returns-then-no_table c =
     let e = sym c.too_many.ensures ∙ c.if-too_many.false in
     let f = sym c.no_table.ensures ∙ c.if-no_table.true in
-    record { result_value = rw (e, f); out_after = rw (e, f); result_value_2 = rw (e, f); gaps_after = rw (e, f); result_value_3 = rw (e, f) }
+    record { answer = rw (e, f); out_after = rw (e, f); reads = rw (e, f); gaps_after = rw (e, f); after = rw (e, f) }
 
 pub returns-then-out-references : goal.returns-then-out-references
 unfolding placement_reads placement_answer offsets_after placing after_answer padding ask unless then buffer_after
@@ -31,7 +31,7 @@ returns-then-out-references c =
     let f = sym c.no_table.ensures ∙ c.if-no_table.false in
     let a = c.args in
     let g = lt-ltb (room_of a.out.now a.gaps.now) (length a.references.now) (omega (arith, c.if-out-references.true)) in
-    record { result_value = rw (e, f, g); out_after = rw (e, f, g); result_value_2 = rw (e, f, g); gaps_after = rw (e, f, g); result_value_3 = rw (e, f, g) }
+    record { answer = rw (e, f, g); out_after = rw (e, f, g); reads = rw (e, f, g); gaps_after = rw (e, f, g); after = rw (e, f, g) }
 
 pub returns-then-gaps-references : goal.returns-then-gaps-references
 unfolding placement_reads placement_answer offsets_after placing after_answer padding ask unless then buffer_after
@@ -40,7 +40,7 @@ returns-then-gaps-references c =
     let f = sym c.no_table.ensures ∙ c.if-no_table.false in
     let a = c.args in
     let g = lt-ltb (room_of a.out.now a.gaps.now) (length a.references.now) (omega (arith, c.if-gaps-references.true)) in
-    record { result_value = rw (e, f, g); out_after = rw (e, f, g); result_value_2 = rw (e, f, g); gaps_after = rw (e, f, g); result_value_3 = rw (e, f, g) }
+    record { answer = rw (e, f, g); out_after = rw (e, f, g); reads = rw (e, f, g); gaps_after = rw (e, f, g); after = rw (e, f, g) }
 
 pub place_all-requires : goal.place_all-requires
 place_all-requires c = (
@@ -62,9 +62,9 @@ returns c =
     let layout = placement_padded m a.table.now a.n a.references.now room in
     let offsets = offsets_padded m a.table.now a.n a.references.now room a.out.now in
     let all = c.place_all.ensures in record {
-      result_value = rw (layout, e, f, g) all.answers.answer;
+      answer = rw (layout, e, f, g) all.answers.answer;
       out_after = rw (offsets, e, f, g) all.offsets;
-      result_value_2 = rw (layout, e, f, g) all.answers.reads;
+      reads = rw (layout, e, f, g) all.answers.reads;
       gaps_after = rw (e, f, g) all.gaps;
-      result_value_3 = rw (e, f, g) all.answers.after;
+      after = rw (e, f, g) all.answers.after;
     }
