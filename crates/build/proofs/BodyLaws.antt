@@ -5,7 +5,6 @@ use mathlib.Core.Bool.{Bool, true, false, cond}
 use mathlib.Core.List.{List, [], ◌∷◌}
 use mathlib.Core.Option.{Option, none, some}
 use Prim.Native.Nat.{ℕ, suc, ◌+◌, ◌≤◌, ◌<◌}
-use native.Mathlib.Nat.{add-zero}
 use native.Mathlib.Omega.{arith}
 use lib.Dec.{ltb, eqb}
 use lib.ListN.{length, get_or, take, drop, length-drop}
@@ -29,7 +28,7 @@ use Rattle.canon.proofs.Tests.{impossible}
 use Rattle.canon.proofs.Built.{type_info}
 use Rattle.types.specs.Leaves.{given, flags_answer}
 use Rattle.canon.proofs.Refusals.{Product, a_record, a_tuple}
-use Rattle.build.specs.Steps.{fold_refs, no_members, add_member, members_row, no_payloads, add_if_payload, payloads_row}
+use Rattle.build.specs.Steps.{fold_refs, no_members, with_member, members_row, no_payloads, add_if_payload, payloads_row}
 use Rattle.canon.specs.Description.{counted, fixed, shape_of, body_length}
 use Rattle.head.specs.Heads.{before, many, between}
 use Rattle.head.proofs.Laws.{between_length, shape_references}
@@ -70,9 +69,9 @@ flags c n = judged (ltb most_flags c) (λ h. rw (lt-leb c most_flags (ltb-true m
 
 module _ (ts : List Ty) where
   product : {k : Kind} {type : Members → Ty} → Product k type → (ws : List ℕ) (kind n : ℕ) → ((us : Members) → row_kind (type us) ≡ kind) →
-      fold_refs (type_info ts) add_member ws no_members (members_row kind) ≡ row_leaf (checked n (map_option type (members_of ts ws)))
+      and_then (fold_refs (with_member (type_info ts)) ws no_members) (members_row kind) ≡ row_leaf (checked n (map_option type (members_of ts ws)))
   product {type = type} p ws kind n e =
-      fold_members_lem ts (members_row kind) add_member ws no_members
+      fold_members_lem ts (members_row kind) ws no_members
       ∙ made type (members_of ts ws) _ n (λ us. rw (← (e us)) (product_row p us n))
 
   count_cases : (ws : List ℕ) (cs : Cases) → cases_of ts ws ≡ some cs → count cs ≡ length ws
@@ -90,7 +89,7 @@ module _ (ts : List Ty) where
   variant ws n =
       judged (eqb (length ws) 0)
       (λ h. rw (discriminant_none (length ws) h))
-      (λ h. rw (discriminant_is (length ws) h) (fold_cases_lem ts (payloads_row 2 (discriminant (length ws))) add_if_payload ws no_payloads ∙ go (cases_of ts ws) refl))
+      (λ h. rw (discriminant_is (length ws) h) (fold_cases_lem ts (payloads_row 2 (discriminant (length ws))) ws no_payloads ∙ go (cases_of ts ws) refl))
     where
       go : (o : Option Cases) → cases_of ts ws ≡ o → or_bad o (λ cs. payloads_row 2 (discriminant (length ws)) (fold_cases add_if_payload no_payloads cs)) ≡ row_leaf (checked n (map_option variant_of o))
       go none e = refl
@@ -104,7 +103,7 @@ module _ (ts : List Ty) where
       variant_row 9 (type_info ts) (v ∷ w ∷ []) ≡ row_leaf (checked n (map_option2 result_of (case_of ts v) (case_of ts w)))
   unfolding variant_row and_then cases_of checked
   result v w n =
-      rw (discriminant_is 2 refl) (fold_cases_lem ts (payloads_row 9 1) add_if_payload (v ∷ w ∷ []) no_payloads ∙ go (case_of ts v) (case_of ts w))
+      rw (discriminant_is 2 refl) (fold_cases_lem ts (payloads_row 9 1) (v ∷ w ∷ []) no_payloads ∙ go (case_of ts v) (case_of ts w))
     where
       go : (o q : Option Case) → or_bad (map_option2 ◌▸◌ o (map_option2 ◌▸◌ q (some ∎))) (λ cs. payloads_row 9 1 (fold_cases add_if_payload no_payloads cs)) ≡ row_leaf (checked n (map_option2 result_of o q))
       go none q = refl
@@ -129,12 +128,12 @@ module _ (ts : List Ty) where
 references_length : (ws : List ℕ) (first n : ℕ) → first + n ≤ length ws → length (between ws first (first + n)) ≡ n
 references_length ws first n h = between_length ws first (first + n) h ∙ omega arith
 
--- a word of the body
+-- the word behind a number of others, as the body's
 body_word : (ws : List ℕ) (from n i p : ℕ) → p ≡ from + i → i < n → get_or ws p 0 ≡ get_or (take n (drop from ws)) i 0
 body_word ws from n i p e h = ap (λ (x : ℕ). get_or ws x 0) e ∙ sym (get_or-take n (drop from ws) i 0 h ∙ get_or-drop from ws i 0)
 
-first : (ws : List ℕ) (from n : ℕ) → get_or ws (from + 0) 0 ≡ get_or (take (suc n) (drop from ws)) 0 0
-first ws from n = body_word ws from (suc n) 0 (from + 0) refl (omega arith)
+first : (ws : List ℕ) (from : ℕ) → get_or ws from 0 ≡ get_or (take 1 (drop from ws)) 0 0
+first ws from = body_word ws from 1 0 from (omega arith) (omega arith)
 
 second : (ws : List ℕ) (from : ℕ) → get_or ws (from + 0 + 1) 0 ≡ get_or (take 2 (drop from ws)) 1 0
 second ws from = body_word ws from 2 1 (from + 0 + 1) (omega arith) (omega arith)
@@ -144,11 +143,16 @@ two [] h = absurd (omega arith)
 two (x ∷ []) h = absurd (omega arith)
 two (x ∷ y ∷ l) h = refl
 
+-- the references of a body with so many, and so many numbers behind them
+module _ (ws : List ℕ) (from n : ℕ) where
+  reference_at : (r k i : ℕ) → i < r → get_or (between ws (from + 0) (from + 0 + r)) i 0 ≡ get_or (take (r + k) (drop from ws)) i 0
+  reference_at r k i h = ap (λ (l : List ℕ). get_or l i 0) (shape_references (fixed r k) ws from n) ∙ get_or-take r (take (r + k) (drop from ws)) i 0 h
+
 pub kind_row_lem :
     (ts : List Ty) (k : Kind) (ws : List ℕ) (from n len : ℕ) →
     n ≡ get_or ws from 0 →
     from + body_length (shape_of k) n ≤ length ws →
-    row_of_kind (type_info ts) ws k n (from + before (shape_of k)) (from + before (shape_of k) + many (shape_of k) n)
+    row_of_kind (type_info ts) k n (between ws (from + before (shape_of k)) (from + before (shape_of k) + many (shape_of k) n)) (get_or ws (from + before (shape_of k) + many (shape_of k) n) 0)
     ≡ cond (is_bad_count k n) (no bad_count) (row_leaf (checked len (type_of ts k (take (body_length (shape_of k) n) (drop from ws)))))
 unfolding row_of_kind type_of
 kind_row_lem ts k_record ws from n len e h = rw (shape_references counted ws from n) (product ts a_record _ 1 len (λ us. refl))
@@ -156,12 +160,12 @@ kind_row_lem ts k_variant ws from n len e h =
     rw (← (shape_references counted ws from n))
     (variant ts (between ws (from + 1) (from + 1 + n)) len
     ∙ ap (λ (l : ℕ). cond (eqb l 0) (no bad_count) (row_leaf (checked len (map_option variant_of (cases_of ts (between ws (from + 1) (from + 1 + n))))))) (references_length ws (from + 1) n (omega arith)))
-kind_row_lem ts k_list ws from n len e h = rw (first ws from 0) (listed ts _ len)
+kind_row_lem ts k_list ws from n len e h = rw (reference_at ws from n 1 0 0 (omega arith)) (listed ts _ len)
 kind_row_lem ts k_tuple ws from n len e h = rw (shape_references counted ws from n) (product ts a_tuple _ 4 len (λ us. refl))
-kind_row_lem ts k_map ws from n len e h = rw (first ws from 1, second ws from) (mapped ts _ _ len)
-kind_row_lem ts k_flags ws from n len e h = rw (← (first ws from 0), add-zero from, ← e) (flags n len)
-kind_row_lem ts k_enum ws from n len e h = rw (← (first ws from 0), add-zero from, ← e) (enum n len)
-kind_row_lem ts k_option ws from n len e h = rw (first ws from 0) (option ts _ len)
+kind_row_lem ts k_map ws from n len e h = rw (reference_at ws from n 2 0 0 (omega arith), reference_at ws from n 2 0 1 (omega arith)) (mapped ts _ _ len)
+kind_row_lem ts k_flags ws from n len e h = rw (← (first ws from), ← e) (flags n len)
+kind_row_lem ts k_enum ws from n len e h = rw (← (first ws from), ← e) (enum n len)
+kind_row_lem ts k_option ws from n len e h = rw (reference_at ws from n 1 0 0 (omega arith)) (option ts _ len)
 kind_row_lem ts k_result ws from n len e h =
     rw (shape_references (fixed 2 0) ws from n, two (drop from ws) (omega (arith, length-drop from ws))) (result ts _ _ len)
-kind_row_lem ts k_fixed ws from n len e h = rw (first ws from 1, second ws from) (fixed_list ts _ _ len)
+kind_row_lem ts k_fixed ws from n len e h = rw (reference_at ws from n 1 1 0 (omega arith), second ws from) (fixed_list ts _ _ len)

@@ -9,7 +9,7 @@ use lib.Dec.{ltb}
 use borrow.Author.Tests.{ltb-false, le-leb}
 use Rattle.canon.specs.Answer.{Leaf, is, no, map_option, and_then}
 use Rattle.canon.specs.Types.{Ty, list_of, map_of, flags_of, fixed_of, k_fixed, kind_word}
-use Rattle.canon.specs.Layout.{Memory, mem32, mem64, Both, both, Layout, starts, last_end, greatest_align, record_size, record_layout, flags_layout, fixed_layout, most_flags, largest_number, layout}
+use Rattle.canon.specs.Layout.{Memory, mem32, mem64, Both, both, Layout, starts, last_end, greatest_align, record_size, record_layout, flags_layout, fixed_layout, most_flags, largest_number, layout, within}
 use Rattle.canon.specs.Layout.{round_up}
 use Rattle.canon.specs.Flat.{copies, flatten, flat_count}
 use Rattle.canon.specs.Pack.{Packed, pack}
@@ -80,6 +80,17 @@ limited_fits es parts c = go (deeper_answer parts) (fitted_of es)
     go (is r) (is ls) e = let q : c ≡ record { layouts = ls; reach = r } = cc in ap is (ap (λ (x : LimitedIs). x.layouts) q)
     go (is r) (no x) e = impossible (cc)
     go (no x) l e = impossible (cc)
+
+-- a key and a value placed in both memories at once, and the end of the whole
+pub entry_steps :
+    (k v : Info) {key : Both Step} {first : Both Extent} {value : Both Step} {second closed : Both Extent} →
+    key ≡ both (λ m. member_of start_extent (info_layout m k)) →
+    first ≡ both (λ m. (within m key).extent) →
+    value ≡ both (λ m. member_of (within m first) (info_layout m v)) →
+    second ≡ both (λ m. (within m value).extent) →
+    closed ≡ both (λ m. close_of (within m second)) →
+    (value ≡ both (λ m. value_step m k v)) × (closed ≡ both (λ m. close_of (value_step m k v).extent))
+entry_steps k v p q r s t = let e = r ∙ rw (q, p) in (e, t ∙ rw (s, e))
 
 -- where an entry fits, its value starts below 4 GiB
 pub value_fits :

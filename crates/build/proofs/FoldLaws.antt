@@ -11,7 +11,7 @@ use Rattle.canon.specs.Row.{Info, info_of}
 use Rattle.canon.specs.Description.{mark, reference, case_of, members_of, cases_of}
 use Rattle.canon.specs.Question.{plain_info}
 use Rattle.canon.proofs.Built.{type_info}
-use Rattle.build.specs.Steps.{case_look, fold_refs}
+use Rattle.build.specs.Steps.{case_look, fold_refs, MembersIs, add_member, with_member, PayloadsIs, add_if_payload, with_case}
 
 -- what is missing is a bad reference
 abbrev pub or_bad : {A B : Type 0} → Option A → (A → Leaf B) → Leaf B
@@ -60,23 +60,32 @@ pub or_bad_eq : {A B : Type 0} (o : Option A) (k l : A → Leaf B) → ((a : A) 
 or_bad_eq none k l e = refl
 or_bad_eq (some a) k l e = e a
 
-module _ {S B : Type 0} (ts : List Ty) (k : S → Leaf B) where
-  pub fold_members_lem :
-      (step : S → Info → S) (ws : List ℕ) (s : S) →
-      fold_refs (type_info ts) step ws s k ≡ or_bad (members_of ts ws) (λ us. k (fold_members step s us))
-  unfolding fold_refs members_of
-  fold_members_lem step [] s = refl
-  fold_members_lem step (w ∷ ws) s =
-      one_look ts w (λ i. fold_refs (type_info ts) step ws (step s i) k)
-      ∙ or_bad_eq (reference ts w) _ _ (λ t. fold_members_lem step ws (step s (info_of t)))
-      ∙ or_bad_cons ◌◂◌ (reference ts w) (members_of ts ws) (λ us. k (fold_members step s us))
+-- one more reference, then the others
+next_look :
+    {A S B : Type 0} (l : Leaf A) (step : A → S) (rest : S → Leaf S) (k : S → Leaf B) →
+    and_then (and_then (and_then l (λ a. is (step a))) rest) k ≡ and_then l (λ a. and_then (rest (step a)) k)
+unfolding and_then
+next_look (is a) step rest k = refl
+next_look (refuses x) step rest k = refl
 
-  pub fold_cases_lem :
-      (step : S → Option Info → S) (ws : List ℕ) (s : S) →
-      fold_refs (case_look (type_info ts)) step ws s k ≡ or_bad (cases_of ts ws) (λ cs. k (fold_cases step s cs))
-  unfolding fold_refs cases_of
-  fold_cases_lem step [] s = refl
-  fold_cases_lem step (w ∷ ws) s =
-      one_case ts w (λ i. fold_refs (case_look (type_info ts)) step ws (step s i) k)
-      ∙ or_bad_eq (case_of ts w) _ _ (λ c. fold_cases_lem step ws (step s (case_info c)))
-      ∙ or_bad_cons ◌▸◌ (case_of ts w) (cases_of ts ws) (λ cs. k (fold_cases step s cs))
+pub fold_members_lem :
+    {B : Type 0} (ts : List Ty) (k : MembersIs → Leaf B) (ws : List ℕ) (s : MembersIs) →
+    and_then (fold_refs (with_member (type_info ts)) ws s) k ≡ or_bad (members_of ts ws) (λ us. k (fold_members add_member s us))
+unfolding fold_refs members_of and_then
+fold_members_lem ts k [] s = refl
+fold_members_lem ts k (w ∷ ws) s =
+    next_look (type_info ts w) (add_member s) (fold_refs (with_member (type_info ts)) ws) k
+    ∙ one_look ts w (λ i. and_then (fold_refs (with_member (type_info ts)) ws (add_member s i)) k)
+    ∙ or_bad_eq (reference ts w) _ _ (λ t. fold_members_lem ts k ws (add_member s (info_of t)))
+    ∙ or_bad_cons ◌◂◌ (reference ts w) (members_of ts ws) (λ us. k (fold_members add_member s us))
+
+pub fold_cases_lem :
+    {B : Type 0} (ts : List Ty) (k : PayloadsIs → Leaf B) (ws : List ℕ) (s : PayloadsIs) →
+    and_then (fold_refs (with_case (type_info ts)) ws s) k ≡ or_bad (cases_of ts ws) (λ cs. k (fold_cases add_if_payload s cs))
+unfolding fold_refs cases_of and_then
+fold_cases_lem ts k [] s = refl
+fold_cases_lem ts k (w ∷ ws) s =
+    next_look (case_look (type_info ts) w) (add_if_payload s) (fold_refs (with_case (type_info ts)) ws) k
+    ∙ one_case ts w (λ i. and_then (fold_refs (with_case (type_info ts)) ws (add_if_payload s i)) k)
+    ∙ or_bad_eq (case_of ts w) _ _ (λ c. fold_cases_lem ts k ws (add_if_payload s (case_info c)))
+    ∙ or_bad_cons ◌▸◌ (case_of ts w) (cases_of ts ws) (λ cs. k (fold_cases add_if_payload s cs))

@@ -1,76 +1,38 @@
--- A loop over the references from a place to an end: one turn, a turn that is refused, the end. And the rows that it reads back.
-use mathlib.Core.Path.{◌≡◌, sym, ap, ◌∙◌}
+-- Over a list of references, from a place on: the first of them, then the others. And the references of a body.
+use mathlib.Core.Path.{◌≡◌, ap, ◌∙◌}
 use mathlib.Core.List.{List, [], ◌∷◌}
-use Prim.Native.Nat.{ℕ, suc, ◌+◌, ◌-◌, ◌≤◌, ◌<◌}
+use Prim.Native.Nat.{ℕ, ◌+◌, ◌≤◌, ◌<◌}
 use native.Mathlib.Numerals.{add-one}
-use native.Mathlib.Omega.{arith}
-use lib.ListN.{length, get_or, drop, length-take, length-drop}
+use lib.ListN.{length, get_or, drop, drop_of_length-le}
 use lib.Seq.{drop-cons}
 use Rattle.canon.specs.Answer.{Leaf, is, no, and_then}
 use Rattle.canon.specs.Cost.{rows_among}
-use Rattle.canon.proofs.Costs.{rows_among_most, rows_append}
-use Rattle.head.specs.Heads.{between}
+use Rattle.canon.proofs.Costs.{rows_append}
 use Rattle.build.specs.Steps.{fold_refs}
-use Rattle.build.proofs.Wording.{then_twice}
 
-between_cons : (ws : List ℕ) (at end : ℕ) → at < end → end ≤ length ws → between ws at end ≡ get_or ws at 0 ∷ between ws (at + 1) end
-unfolding between
-between_cons ws at end h l =
-    let n : end - at ≡ suc (end - (at + 1)) = omega arith in
-    rw (n, drop-cons ws at 0 (omega arith), add-one at)
+from : (ws : List ℕ) (i : ℕ) → i < length ws → drop i ws ≡ get_or ws i 0 ∷ drop (i + 1) ws
+from ws i h = rw (drop-cons ws i 0 h, add-one i)
 
-module _ {A S B : Type 0} (look : ℕ → Leaf A) (step : S → A → S) (k : S → Leaf B) (ws : List ℕ) (at end : ℕ) (s : S) where
-  -- the state after one more reference, or its refusal
-  abbrev next : Leaf S
-  next = and_then (look (get_or ws at 0)) (λ a. is (step s a))
+pub reads_on : (ws : List ℕ) (i : ℕ) → i < length ws → rows_among (drop i ws) ≡ rows_among (get_or ws i 0 ∷ []) + rows_among (drop (i + 1) ws)
+reads_on ws i h = ap rows_among (from ws i h) ∙ rows_append (get_or ws i 0 ∷ []) (drop (i + 1) ws)
 
-  opened : at < end → end ≤ length ws → fold_refs look step (between ws at end) s k ≡ and_then next (λ s'. fold_refs look step (between ws (at + 1) end) s' k)
-  unfolding fold_refs and_then
-  opened h l = rw (between_cons ws at end h l) (sym (then_twice (look (get_or ws at 0)) (λ a. is (step s a)) (λ s'. fold_refs look step (between ws (at + 1) end) s' k)))
+pub reads_over : (ws : List ℕ) (i : ℕ) → length ws ≤ i → rows_among (drop i ws) ≡ 0
+unfolding rows_among
+reads_over ws i h = rw (drop_of_length-le ws {i = i} h)
 
-  pub turn : (s' : S) → and_then (look (get_or ws at 0)) (λ a. is (step s a)) ≡ is s' → at < end → end ≤ length ws →
-      fold_refs look step (between ws at end) s k ≡ fold_refs look step (between ws (at + 1) end) s' k
+module _ {S : Type 0} (next : S → ℕ → Leaf S) (ws : List ℕ) (i : ℕ) (s : S) {l : Leaf S} (so_far : fold_refs next (drop i ws) s ≡ l) where
+  opened : i < length ws → and_then (next s (get_or ws i 0)) (fold_refs next (drop (i + 1) ws)) ≡ l
+  unfolding fold_refs
+  opened h = rw (from ws i h) at so_far
+
+  pub turn : (s' : S) → is s' ≡ next s (get_or ws i 0) → i < length ws → fold_refs next (drop (i + 1) ws) s' ≡ l
   unfolding and_then
-  turn s' e h l = opened h l ∙ rw e
+  turn s' e h = rw (← e) at (opened h)
 
-  pub stop : (x : ℕ) → and_then (look (get_or ws at 0)) (λ a. is (step s a)) ≡ no x → at < end → end ≤ length ws →
-      fold_refs look step (between ws at end) s k ≡ no x
+  pub stop : (x : ℕ) → no x ≡ next s (get_or ws i 0) → i < length ws → no x ≡ l
   unfolding and_then
-  stop x e h l = opened h l ∙ rw e
+  stop x e h = rw (← e) at (opened h)
 
-  pub over : end ≤ at → fold_refs look step (between ws at end) s k ≡ k s
-  unfolding fold_refs between
-  over h = let n : end - at ≡ 0 = omega arith in rw n
-
--- The rows that were read back so far, and those among the references that are left
-
-module _ (ws : List ℕ) (at end reads total : ℕ) (so_far : reads + rows_among (between ws at end) ≡ total) where
-  pub reads_turn : (read : ℕ) → read ≡ rows_among (get_or ws at 0 ∷ []) → at < end → end ≤ length ws → reads + read + rows_among (between ws (at + 1) end) ≡ total
-  reads_turn read e h l =
-      let one : rows_among (between ws at end) ≡ rows_among (get_or ws at 0 ∷ []) + rows_among (between ws (at + 1) end) =
-      ap rows_among (between_cons ws at end h l) ∙ rows_append (get_or ws at 0 ∷ []) (between ws (at + 1) end) in
-      omega (arith, so_far, e, one)
-
-  pub reads_over : end ≤ at → reads ≡ total
-  unfolding rows_among between
-  reads_over h = let n : end - at ≡ 0 = omega arith in omega (arith, rw n at so_far)
-
--- bodies of no reference, of one and of two
-
-pub none_between : (ws : List ℕ) (first end : ℕ) → end ≡ first → between ws first end ≡ []
-unfolding between
-none_between ws first end e = let n : end - first ≡ 0 = omega arith in rw n
-
-pub one_between : (ws : List ℕ) (first end : ℕ) → end ≡ first + 1 → first < length ws → between ws first end ≡ get_or ws first 0 ∷ []
-one_between ws first end e h =
-    between_cons ws first end (omega arith) (omega arith) ∙ ap (λ (l : List ℕ). get_or ws first 0 ∷ l) (none_between ws (first + 1) end e)
-
-pub two_between : (ws : List ℕ) (first end : ℕ) → end ≡ first + 2 → first + 1 < length ws → between ws first end ≡ get_or ws first 0 ∷ get_or ws (first + 1) 0 ∷ []
-two_between ws first end e h =
-    between_cons ws first end (omega arith) (omega arith)
-    ∙ ap (λ (l : List ℕ). get_or ws first 0 ∷ l) (one_between ws (first + 1) end (omega arith) h)
-
--- they are no more than the words
-pub between_most : (ws : List ℕ) (first end : ℕ) → rows_among (between ws first end) ≤ length ws
-unfolding between
-between_most ws first end = omega (arith, rows_among_most (between ws first end), length-take (end - first) (drop first ws), length-drop first ws)
+  pub over : length ws ≤ i → is s ≡ l
+  unfolding fold_refs
+  over h = rw (drop_of_length-le ws {i = i} h) at so_far

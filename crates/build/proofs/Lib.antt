@@ -10,7 +10,7 @@ pub mod ElementLaws
 pub mod BodyLaws
 pub mod DefinitionLaws
 pub mod RunLaws
-pub mod Accepted
+pub mod Accepts
 pub mod Unique
 pub mod Promises
 pub mod Arms

@@ -9,6 +9,7 @@ use Prim.Native.Nat.{ℕ, suc, ◌+◌, ◌≤◌, ◌<◌}
 use lib.ListN.{length, take, get_elem?}
 use contract.Lifetimes.{Lfts}
 use denote.Ref.{Bor, MutBor, at_last}
+use Rattle.std.specs.Prelude.{Result}
 use Rattle.canon.specs.Answer.{Answer, ok, refused, too_large, too_deep}
 use Rattle.canon.specs.Cost.{rows_read, reported, build_reads}
 use Rattle.canon.specs.Types.{Ty, Members, Kind}
@@ -26,8 +27,10 @@ use Rattle.canon.proofs.Stopped.{Comes, ComesTo, stopped_nine, stopped_six, buil
 use Rattle.canon.proofs.Costs.{build_within, so_far_read}
 use Rattle.canon.proofs.Built.{Accepted, built_sound, type_at, type_info, reads_built}
 use Rattle.build.specs.Means.{built_means, built_reads, accepted}
+use Rattle.table.specs.declared.info.DefinitionIndex.{DefinitionIndex}
+use Rattle.table.specs.declared.refused.Refused.{Refused}
 use Rattle.build.specs.declared.Built.{Built}
-use Rattle.build.proofs.Accepted.{accepted_types, row_is, row_layout, fits_in, product_tightest}
+use Rattle.build.proofs.Accepts.{accepted_types, row_is, row_layout, fits_in, product_tightest}
 use Rattle.build.proofs.build.Reads as build
 
 -- a row's word 15 tells what its type reaches, which is 1 to 100 deep
@@ -40,7 +43,7 @@ accepted_deep : (u : Ty) → Accepted u → Deep (word (row_of u) 15) u
 unfolding row_of
 accepted_deep u a = record { told = refl; deep = definition_deep u a.definition; shallow = a.shallow }
 
-module _ (κs : Lfts 2) (ws : Bor (List ℕ)) (t : MutBor (List ℕ)) (r : Built) (l : List ℕ) (promise : build.Post κs (ws, (t, tt)) r (ws, (at_last t l, tt))) where
+module _ (κs : Lfts 2) (ws : Bor (List ℕ)) (t : MutBor (List ℕ)) (r : Result Built (Refused DefinitionIndex)) (l : List ℕ) (promise : build.Post κs (ws, (t, tt)) r (ws, (at_last t l, tt))) where
   -- 6 at i exactly when the definition i, which the build comes to, passes every earlier check and is too large for the 64-bit memory: never on account of the 32-bit memory alone
   pub large_at :
       (i : ℕ) →

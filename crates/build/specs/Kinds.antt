@@ -1,5 +1,5 @@
 -- The row of each kind, over what its references give.
-use Rattle.std.specs.Prelude.{List, ℕ, ◌+◌, ◌*◌, length, get_or}
+use Rattle.std.specs.Prelude.{List, ℕ, ◌*◌, length, get_or}
 use Rattle.std.proofs.Math.Option.{some}
 use Rattle.canon.specs.Answer.{Leaf, is, map_option, and_then}
 use Rattle.canon.specs.Layout.{Memory, both, within}
@@ -13,7 +13,7 @@ use Rattle.types.specs.declared.extent.Step.{Step}
 use Rattle.flat_types.specs.Lists.{unpacked, packed, memory_words}
 use Rattle.table.specs.Means.{deeper_answer}
 use Rattle.head.specs.Heads.{Heading, head_at, between}
-use Rattle.build.specs.Steps.{case_look, fold_refs, pair_words, fit_row, info_flat, no_members, add_member, members_row, no_payloads, add_payload, add_if_payload, payloads_row}
+use Rattle.build.specs.Steps.{fold_refs, pair_words, fit_row, info_flat, no_members, with_member, members_row, no_payloads, add_payload, with_case, payloads_row}
 
 unfoldable pub list_row : Info → Leaf (List ℕ)
 list_row i = and_then (deeper_answer i.reach) (λ r. is (pair_words 3 (both (λ m. no_inner)) r))
@@ -29,7 +29,8 @@ flags_row n =
 
 -- a variant's row, and a result's, by the kind's word
 unfoldable pub variant_row : ℕ → (ℕ → Leaf Info) → List ℕ → Leaf (List ℕ)
-variant_row kind look ws = and_then (discriminant_answer (length ws)) (λ d. fold_refs (case_look look) add_if_payload ws no_payloads (payloads_row kind d))
+variant_row kind look ws =
+    and_then (discriminant_answer (length ws)) (λ d. and_then (fold_refs (with_case look) ws no_payloads) (payloads_row kind d))
 
 unfoldable pub enum_row : ℕ → Leaf (List ℕ)
 enum_row n = and_then (discriminant_answer n) (λ d. payloads_row 7 d no_payloads)
@@ -49,21 +50,21 @@ entry_row k v =
 unfoldable pub map_row : (ℕ → Leaf Info) → ℕ → ℕ → Leaf (List ℕ)
 map_row look k v = and_then (look k) (λ a. and_then (look v) (λ b. entry_row a b))
 
--- the row of a kind with the count n, whose references stand from `first` to before `end`
-unfoldable pub row_of_kind : (ℕ → Leaf Info) → List ℕ → Kind → ℕ → ℕ → ℕ → Leaf (List ℕ)
-row_of_kind look ws k_record n first end = fold_refs look add_member (between ws first end) no_members (members_row 1)
-row_of_kind look ws k_variant n first end = variant_row 2 look (between ws first end)
-row_of_kind look ws k_list n first end = and_then (look (get_or ws first 0)) list_row
-row_of_kind look ws k_tuple n first end = fold_refs look add_member (between ws first end) no_members (members_row 4)
-row_of_kind look ws k_map n first end = map_row look (get_or ws first 0) (get_or ws (first + 1) 0)
-row_of_kind look ws k_flags n first end = flags_row n
-row_of_kind look ws k_enum n first end = enum_row n
-row_of_kind look ws k_option n first end = and_then (look (get_or ws first 0)) option_row
-row_of_kind look ws k_result n first end = variant_row 9 look (between ws first end)
-row_of_kind look ws k_fixed n first end = and_then (look (get_or ws first 0)) (fixed_row (get_or ws (first + 1) 0))
+-- the row of a kind with the count n and the references ws; a fixed list's length stands behind them
+unfoldable pub row_of_kind : (ℕ → Leaf Info) → Kind → ℕ → List ℕ → ℕ → Leaf (List ℕ)
+row_of_kind look k_record n ws behind = and_then (fold_refs (with_member look) ws no_members) (members_row 1)
+row_of_kind look k_variant n ws behind = variant_row 2 look ws
+row_of_kind look k_list n ws behind = and_then (look (get_or ws 0 0)) list_row
+row_of_kind look k_tuple n ws behind = and_then (fold_refs (with_member look) ws no_members) (members_row 4)
+row_of_kind look k_map n ws behind = map_row look (get_or ws 0 0) (get_or ws 1 0)
+row_of_kind look k_flags n ws behind = flags_row n
+row_of_kind look k_enum n ws behind = enum_row n
+row_of_kind look k_option n ws behind = and_then (look (get_or ws 0 0)) option_row
+row_of_kind look k_result n ws behind = variant_row 9 look ws
+row_of_kind look k_fixed n ws behind = and_then (look (get_or ws 0 0)) (fixed_row behind)
 
 abbrev pub kind_row : (ℕ → Leaf Info) → List ℕ → Heading → Leaf (List ℕ)
-kind_row look ws h = row_of_kind look ws h.kind h.count h.first h.end
+kind_row look ws h = row_of_kind look h.kind h.count (between ws h.first h.end) (get_or ws h.end 0)
 
 -- a definition's row, and the place of the next definition
 pub record DefinedIs : Type 0 where

@@ -28,9 +28,9 @@ unfoldable pub case_look : (ℕ → Leaf Info) → ℕ → Leaf (Option Info)
 case_look look w = cond (eqb w mark) (is none) (and_then (look w) (λ i. is (some i)))
 
 -- one reference after another into a state; the first bad one decides
-unfoldable pub fold_refs : {A S B : Type 0} → (ℕ → Leaf A) → (S → A → S) → List ℕ → S → (S → Leaf B) → Leaf B
-fold_refs look step [] s k = k s
-fold_refs look step (w ∷ ws) s k = and_then (look w) (λ a. fold_refs look step ws (step s a) k)
+unfoldable pub fold_refs : {S : Type 0} → (S → ℕ → Leaf S) → List ℕ → S → Leaf S
+fold_refs next [] s = is s
+fold_refs next (w ∷ ws) s = and_then (next s w) (fold_refs next ws)
 
 -- Rows
 
@@ -87,6 +87,10 @@ add_member s i =
       reach = join_reach s.reach i.reach;
     }
 
+-- with what one more reference gives
+abbrev pub with_member : (ℕ → Leaf Info) → MembersIs → ℕ → Leaf MembersIs
+with_member look s w = and_then (look w) (λ i. is (add_member s i))
+
 unfoldable pub members_row : ℕ → MembersIs → Leaf (List ℕ)
 members_row kind s =
     fit_row (both (λ m. close_of (within m s.extents))) s.reach (λ ls. row_words kind ls (in_each s.flat) (both (λ m. no_inner)))
@@ -112,6 +116,9 @@ add_payload s i =
 unfoldable pub add_if_payload : PayloadsIs → Option Info → PayloadsIs
 add_if_payload s none = s
 add_if_payload s (some i) = add_payload s i
+
+abbrev pub with_case : (ℕ → Leaf Info) → PayloadsIs → ℕ → Leaf PayloadsIs
+with_case look s w = and_then (case_look look w) (λ c. is (add_if_payload s c))
 
 unfoldable pub payloads_row : ℕ → ℕ → PayloadsIs → Leaf (List ℕ)
 payloads_row kind d s =

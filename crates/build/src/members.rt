@@ -1,136 +1,105 @@
 // Makes the rows of records, tuples and maps from the members so far, in both memories at once.
-ghost use Rattle.std.specs.Prelude.{◌≡◌, [], ◌∷◌, ◌+◌, ◌≤◌, ◌<◌, length, get_or};
+ghost use Rattle.std.specs.Prelude.{◌≡◌, [], ◌∷◌};
+ghost use Rattle.canon.specs.Answer.{and_then};
 ghost use Rattle.canon.specs.Cost.{rows_among};
-ghost use Rattle.table.specs.Means.{info_means};
-ghost use Rattle.head.specs.Heads.{between};
-ghost use Rattle.build.specs.Means.{members_means, rowed_means, MadeReads};
-ghost use Rattle.build.specs.Steps.{no_members, add_member, members_row, member_look, fold_refs};
+ghost use Rattle.canon.specs.Types.{kind_word};
+ghost use Rattle.types.specs.Means.{leaf};
+ghost use Rattle.table.specs.Means.{info_means, row_means};
+ghost use Rattle.head.specs.Means.{kind_means};
+ghost use Rattle.build.specs.Means.{look_in, counted, ReadBack, members_means};
+ghost use Rattle.build.specs.Steps.{MembersIs, no_members, add_member, with_member, members_row, fold_refs};
 ghost use Rattle.build.specs.Kinds.{entry_row, map_row};
 
-use crate::reference::{Looked, member_at};
-use crate::row::{Limited, Made, NO_INNER, Rowed, fit_row, pair_row, within_limits};
+use crate::counted::Counted;
+use crate::gather::{Parts, References};
+use crate::reference::Earlier;
+use crate::row::{NO_INNER, fit_row, pair_row, within_limits};
 use flat_types::FlatTypes;
-use head::MAP;
-use table::{DefinitionIndex, Info, Inner, Reach};
-use types::Extents;
+use head::Kind;
+use table::{Info, Inner, Reach, Row};
+use types::{Both, Extent, Refusal};
 
+// The members so far: an end may pass 4 GiB, so it is no layout yet.
 #[derive(Clone, Copy)]
 struct Members {
-    extents: Extents,
+    extents: Both<Extent>,
     flat: FlatTypes,
     reach: Reach,
 }
 
 impl Members {
-    fn start() -> Members
-        ensures { members_means result ≡ no_members }
-    {
-        Members {
-            extents: Extents::EMPTY,
-            flat: FlatTypes::EMPTY,
-            reach: Reach::NONE,
-        }
-    }
+    const NONE: Members = Members {
+        extents: Both::<Extent>::EMPTY,
+        flat: FlatTypes::EMPTY,
+        reach: Reach::NONE,
+    };
 
     fn add(self, member: Info) -> Members
         ensures { members_means result ≡ add_member (members_means self) (info_means member) }
     {
-        let extents = self.extents;
-        let flat = self.flat;
-        let reach = self.reach;
-        let layouts = member.layouts;
-        let types = member.flat;
-        let reached = member.reach;
-        let step = extents.member(layouts);
-        let extents = step.extents;
         Members {
-            extents,
-            flat: flat.append(types),
-            reach: reach.join(reached),
+            extents: self.extents.member(member.layouts).extents(),
+            flat: self.flat.append(member.flat),
+            reach: self.reach.join(member.reach),
         }
     }
 
-    fn row(self, kind: u32) -> Rowed
-        ensures { rowed_means result ≡ members_row kind (members_means self) }
+    #[tactic(auto, unfolding(crate::specs::Steps::members_row))]
+    fn row(self, kind: Kind) -> Result<Row, Refusal>
+        ensures { leaf row_means result ≡ members_row (kind_word (kind_means kind)) (members_means self) }
     {
-        let extents = self.extents;
-        let flat = self.flat;
-        let parts = self.reach;
-        fit_row(kind, extents.close(), flat, NO_INNER, parts)
+        fit_row(kind, self.extents.close(), self.flat, NO_INNER, self.reach)
     }
 }
 
-// A record or a tuple has the references from `first` to before `end`.
-pub(crate) fn members_row(
-    words: &[u32],
-    first: usize,
-    end: usize,
-    table: &[u32],
-    index: DefinitionIndex,
-    kind: u32,
-) -> Made
-    requires { (first ≤ end) × (end ≤ length words.now) × (length words.now ≤ 16384) × (index.0 ≤ 1024) }
-    ensures rowed_value { rowed_means result.rowed ≡ fold_refs (member_look table.now index.0) add_member (between words.now first end) no_members (members_row kind) }
-    ensures made_reads { MadeReads result (rows_among (between words.now first end)) }
+impl Parts for Members {
+    ghost Sum = { MembersIs };
+
+    ghost means = { members_means };
+
+    ghost with = { with_member };
+
+    #[tactic(auto, unfolding(canon::specs::Answer::and_then))]
+    fn with(self, earlier: Earlier, reference: u32) -> Result<Counted<Members>, Refusal> {
+        Ok(earlier.member(reference)?.map(|member| self.add(member)))
+    }
+}
+
+#[tactic(auto, unfolding(canon::specs::Answer::and_then, canon::specs::Reach::word_reach))]
+pub(crate) fn members_row(kind: Kind, references: References) -> Result<Counted<Row>, Refusal>
+    ensures value { counted row_means result ≡ and_then (fold_refs (with_member (look_in references.entry.earlier)) references.entry.words.now no_members) (members_row (kind_word (kind_means kind))) }
+    ensures reads { ReadBack result (rows_among references.entry.words.now) }
 {
-    let mut members = Members::start();
-    let mut reads: u32 = 0;
-    let mut at = first;
-    while at < end {
-        match member_at(table, index, words[at]) {
-            Looked::BadRef => return Made::BAD_REF,
-            Looked::Info(member, read) => {
-                members = members.add(member);
-                reads += read;
-            }
-        }
-        at += 1;
-    }
-    Made {
-        rowed: members.row(kind),
-        reads,
-    }
+    references
+        .gather(Members::NONE)?
+        .and_then(|members| members.row(kind))
 }
 
 // Makes the row of a map by the layout of its entries. A value starts where it stands in an entry.
-fn entry_row(key: Info, value: Info) -> Rowed
-    ensures { rowed_means result ≡ entry_row (info_means key) (info_means value) }
+fn entry_row(key: Info, value: Info) -> Result<Row, Refusal>
+    ensures { leaf row_means result ≡ entry_row (info_means key) (info_means value) }
 {
-    let key_layouts = key.layouts;
-    let value_layouts = value.layouts;
-    let key_reach = key.reach;
-    let value_reach = value.reach;
-    let first = Extents::EMPTY.member(key_layouts);
-    let extents = first.extents;
-    let second = extents.member(value_layouts);
-    let extents = second.extents;
-    match within_limits(extents.close(), key_reach.join(value_reach)) {
-        Limited::Refused(why) => Rowed::Refused(why),
-        Limited::Within(entries, reach) => {
-            let inner = Inner {
-                discriminant: 0,
-                offset32: second.start32 as u32,
-                offset64: second.start64 as u32,
-                entries,
-            };
-            pair_row(MAP, inner, reach)
-        }
-    }
+    let first = Both::<Extent>::EMPTY.member(key.layouts).extents();
+    let second = first.member(value.layouts);
+    let entry = within_limits(second.extents().close(), key.reach.join(value.reach))?;
+    let inner = Inner {
+        discriminant: 0,
+        offset32: second.in32.start as u32,
+        offset64: second.in64.start as u32,
+        entries: entry.layouts,
+    };
+    Ok(pair_row(Kind::Map, inner, entry.reach))
 }
 
-pub(crate) fn map_row(words: &[u32], first: usize, table: &[u32], index: DefinitionIndex) -> Made
-    requires { (first + 1 < length words.now) × (index.0 ≤ 1024) }
-    ensures rowed_value { rowed_means result.rowed ≡ map_row (member_look table.now index.0) (get_or words.now first 0) (get_or words.now (first + 1) 0) }
-    ensures made_reads { MadeReads result (rows_among (get_or words.now first 0 ∷ get_or words.now (first + 1) 0 ∷ [])) }
+#[tactic(auto, unfolding(crate::specs::Kinds::map_row, canon::specs::Answer::and_then))]
+pub(crate) fn map_row(earlier: Earlier, key: u32, value: u32) -> Result<Counted<Row>, Refusal>
+    ensures value { counted row_means result ≡ map_row (look_in earlier.entry) key value }
+    ensures reads { ReadBack result (rows_among (key ∷ value ∷ [])) }
 {
-    match member_at(table, index, words[first]) {
-        Looked::BadRef => Made::BAD_REF,
-        Looked::Info(key, reads) => match member_at(table, index, words[first + 1]) {
-            Looked::BadRef => Made::BAD_REF,
-            Looked::Info(value, read) => Made {
-                rowed: entry_row(key, value),
-                reads: reads + read,
-            },
-        },
-    }
+    let key = earlier.member(key)?;
+    let value = earlier.member(value)?;
+    Ok(Counted {
+        value: entry_row(key.value, value.value)?,
+        reads: key.reads + value.reads,
+    })
 }

@@ -1,41 +1,23 @@
 // Makes the row of a definition that is not too deep, where both memories can hold it.
 ghost use Rattle.std.specs.Prelude.{◌≡◌};
-ghost use Rattle.canon.specs.Answer.{is};
 ghost use Rattle.canon.specs.Row.{row_words};
-ghost use Rattle.types.specs.Means.{layouts_means, extents_means};
-ghost use Rattle.table.specs.Means.{reach_means};
-ghost use Rattle.build.specs.Means.{rowed_means, limited_means, flat_means, inner_means};
+ghost use Rattle.canon.specs.Types.{kind_word};
+ghost use Rattle.types.specs.Means.{leaf, layouts_means, each};
+ghost use Rattle.table.specs.Means.{reach_means, row_means};
+ghost use Rattle.head.specs.Means.{kind_means};
+ghost use Rattle.build.specs.Means.{limited_means, flat_means, inner_means};
 ghost use Rattle.build.specs.Steps.{limited_of, fit_row, pair_words};
 
 use flat_types::FlatTypes;
-use table::{Deeper, Info, Inner, NO_LAYOUTS, Reach, Row};
-use types::{CanonicalAbiInfo, Extents, Fitted, Layouts, Refusal};
-
-#[derive(Clone, Copy)]
-pub(crate) enum Rowed {
-    Row(Row),
-    Refused(Refusal),
-}
-
-// Holds what a definition's body makes, and how many rows were read back for it: of a refusal the number tells nothing.
-#[derive(Clone, Copy)]
-pub(crate) struct Made {
-    pub(crate) rowed: Rowed,
-    pub(crate) reads: u32,
-}
-
-impl Made {
-    pub(crate) const BAD_REF: Made = Made {
-        rowed: Rowed::Refused(Refusal::BadRef),
-        reads: 0,
-    };
-}
+use head::{Kind, kind_word};
+use table::{Info, Inner, NO_LAYOUTS, Reach, Row};
+use types::{Both, CanonicalAbiInfo, Extent, Layout, Refusal};
 
 // What a definition is within the limits of depth and size: its layouts and what it reaches.
 #[derive(Clone, Copy)]
-pub(crate) enum Limited {
-    Within(Layouts, Reach),
-    Refused(Refusal),
+pub(crate) struct Limited {
+    pub(crate) layouts: Both<Layout>,
+    pub(crate) reach: Reach,
 }
 
 pub(crate) const NO_INNER: Inner = Inner {
@@ -46,55 +28,53 @@ pub(crate) const NO_INNER: Inner = Inner {
 };
 
 // A list and a map have the layouts and the flat types of a pointer pair.
-pub(crate) fn pair_row(kind: u32, inner: Inner, reach: Reach) -> Rowed
-    ensures { rowed_means result ≡ is (pair_words kind (inner_means inner) (reach_means reach)) }
-{
-    let pair = CanonicalAbiInfo::POINTER_PAIR;
-    let layouts = pair.layouts();
-    row_of(kind, layouts, FlatTypes::POINTER_PAIR, inner, reach)
-}
-
-pub(crate) fn row_of(
-    kind: u32,
-    layouts: Layouts,
-    flat: FlatTypes,
-    inner: Inner,
-    reach: Reach,
-) -> Rowed
-    ensures { rowed_means result ≡ is (row_words kind (layouts_means layouts) (flat_means flat) (inner_means inner) (reach_means reach)) }
+pub(crate) fn pair_row(kind: Kind, inner: Inner, reach: Reach) -> Row
+    ensures { row_means result ≡ pair_words (kind_word (kind_means kind)) (inner_means inner) (reach_means reach) }
 {
     let info = Info {
-        layouts,
-        flat,
+        layouts: CanonicalAbiInfo::POINTER_PAIR.layouts(),
+        flat: FlatTypes::POINTER_PAIR,
         reach,
     };
-    Rowed::Row(Row { kind, info, inner })
+    row_of(kind, info, inner)
+}
+
+#[tactic(auto, using(canon::proofs::Reaches::reach_back))]
+pub(crate) fn row_of(kind: Kind, info: Info, inner: Inner) -> Row
+    ensures { row_means result ≡ row_words (kind_word (kind_means kind)) (layouts_means info.layouts) (flat_means info.flat) (inner_means inner) (reach_means info.reach) }
+{
+    Row {
+        kind: kind_word(kind),
+        info,
+        inner,
+    }
 }
 
 // Makes the last two tests of a definition. Refuses TooDeep, by what its references reach, then TooLarge where a memory cannot hold it.
-pub(crate) fn within_limits(extents: Extents, parts: Reach) -> Limited
-    ensures { limited_means result ≡ limited_of (extents_means extents) (reach_means parts) }
+#[tactic(auto, unfolding(crate::specs::Steps::limited_of, canon::specs::Answer::and_then))]
+pub(crate) fn within_limits(extents: Both<Extent>, parts: Reach) -> Result<Limited, Refusal>
+    ensures { leaf limited_means result ≡ limited_of (each extents) (reach_means parts) }
 {
-    match parts.deeper() {
-        Deeper::TooDeep => Limited::Refused(Refusal::TooDeep),
-        Deeper::Reach(reach) => match extents.fitted() {
-            Fitted::TooLarge => Limited::Refused(Refusal::TooLarge),
-            Fitted::Layouts(layouts) => Limited::Within(layouts, reach),
-        },
-    }
+    let reach = parts.deeper()?;
+    let layouts = extents.fitted()?;
+    Ok(Limited { layouts, reach })
 }
 
+#[tactic(auto, unfolding(crate::specs::Steps::fit_row, canon::specs::Answer::and_then))]
 pub(crate) fn fit_row(
-    kind: u32,
-    extents: Extents,
+    kind: Kind,
+    extents: Both<Extent>,
     flat: FlatTypes,
     inner: Inner,
     parts: Reach,
-) -> Rowed
-    ensures { rowed_means result ≡ fit_row (extents_means extents) (reach_means parts) (λ ls. row_words kind ls (flat_means flat) (inner_means inner)) }
+) -> Result<Row, Refusal>
+    ensures { leaf row_means result ≡ fit_row (each extents) (reach_means parts) (λ ls. row_words (kind_word (kind_means kind)) ls (flat_means flat) (inner_means inner)) }
 {
-    match within_limits(extents, parts) {
-        Limited::Refused(why) => Rowed::Refused(why),
-        Limited::Within(layouts, reach) => row_of(kind, layouts, flat, inner, reach),
-    }
+    let limited = within_limits(extents, parts)?;
+    let info = Info {
+        layouts: limited.layouts,
+        flat,
+        reach: limited.reach,
+    };
+    Ok(row_of(kind, info, inner))
 }

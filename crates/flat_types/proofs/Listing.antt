@@ -5,6 +5,7 @@ use mathlib.Core.List.{List, [], ◌∷◌, ◌++◌}
 use mathlib.Core.Option.{Option, none, some, get_or}
 use Prim.Native.Nat.{ℕ, zero, suc, ◌+◌, ◌*◌, ◌/◌, ◌^◌, ◌≤◌, ◌<◌, max}
 use native.Mathlib.Nat.{div-one, div-add-mod'}
+use native.Mathlib.Decide.{dec_le}
 use native.Mathlib.Omega.{arith}
 use lib.Bits.{bit_or, or_add_and, and_le_r, or_zero_l, or_shr}
 use lib.Dec.{leb, eqb}
@@ -98,8 +99,13 @@ module _ (p : Packed) (n : ℕ) where
   repeat_length : length (copies n (types p)) ≡ p.number * n
   repeat_length = length_copies n (types p) ∙ ap (λ (x : ℕ). x * n) (length_types p)
 
-  pub repeat_none : p.number ≤ 16 → 16 < p.number * n → no_list ≡ packed (map_option (copies n) (unpacked p))
-  repeat_none h k = rw (list_some p h) (sym (packed_none 16 (copies n (types p)) (omega (arith, repeat_length))))
+  -- too many types, of the element or of all copies
+  pub repeat_none : (p.number ≤ 16 → 16 < p.number * n) → no_list ≡ packed (map_option (copies n) (unpacked p))
+  repeat_none more =
+      elim (dec_le p.number 16) [
+        | no h ↦ one_none p (copies n) 16 (omega arith)
+        | yes h ↦ rw (list_some p h) (sym (packed_none 16 (copies n (types p)) (omega (arith, repeat_length, more h))))
+      ]
 
   pub repeat_fits : p.number * n ≤ 16 → pack (copies n (types p)) < 2 ^ 32
   repeat_fits h = pack_fits (copies n (types p)) 16 (omega (arith, repeat_length))

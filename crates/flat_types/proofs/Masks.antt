@@ -2,10 +2,10 @@
 use mathlib.Core.Path.{◌≡◌, refl, sym, ◌∙◌}
 use mathlib.Core.List.{List}
 use Prim.Native.Nat.{ℕ, zero, suc, ◌+◌, ◌-◌, ◌*◌, ◌/◌, ◌%◌, ◌^◌, ◌≤◌, ◌<◌}
-use native.Mathlib.Nat.{pow-suc, suc-mul, mod-one, mod-lt, mod-le, mod-eq_of_lt, add_comm, one-mul, pow-le-pow_right, mul-lt-mul_of_pos_right}
+use native.Mathlib.Nat.{pow-suc, suc-mul, mod-one, mod-lt, mod-eq_of_lt, add_comm, one-mul, pow-le-pow_right, mul-lt-mul_of_pos_right}
 use native.Mathlib.Omega.{arith}
 use lib.Arith.{mod-mul}
-use lib.Bits.{bit_and, bit_or, and_mask, and_le_r, or_shifted_r}
+use lib.Bits.{bit_and, bit_or, and_mask, or_shifted_r}
 use lib.ListN.{length}
 use lib.Pow.{pow_pos, pow-add, shl_exact}
 use Rattle.canon.specs.Pack.{pack, unpack}
@@ -28,9 +28,6 @@ pack_unpack zero w = sym (mod-one w)
 pack_unpack (suc n) w =
     rw (pack_unpack n (w / 4), code_decode (w % 4) (mod-lt w (omega arith)), pow-suc 4 n, mod-mul w {m = 4 ^ n} {c = 4} (pow4_pos n) (omega arith))
 
-pub pack_unpack_le : (n w : ℕ) → pack (unpack n w) ≤ w
-pack_unpack_le n w = rw (pack_unpack n w) (mod-le w (4 ^ n))
-
 -- so many types fit so many pairs of bits
 pub pack_fits : (l : List Core) (n : ℕ) → length l ≤ n → pack l < 4 ^ n
 pack_fits l n h = let p : 4 ^ length l ≤ 4 ^ n = pow-le-pow_right (omega arith) h in omega (arith, pack_lt l)
@@ -43,18 +40,11 @@ places_fit n w h l = let p : 4 ^ n ≤ 4 ^ 16 = pow-le-pow_right (omega arith) h
 bit : (n : ℕ) → n ≤ 16 → (1 * 2 ^ (n * 2)) % 2 ^ 64 ≡ 4 ^ n
 bit n h = shl_exact {a = 1} 1 (n * 2) 64 (omega arith) (omega arith) ∙ one-mul (2 ^ (n * 2)) ∙ pow4 n
 
-pub bit_pos : (n : ℕ) → n ≤ 16 → 1 ≤ (1 * 2 ^ (n * 2)) % 2 ^ 64
-bit_pos n h = rw (bit n h) (pow4_pos n)
-
 pub mask_fits : (n : ℕ) → n ≤ 16 → (1 * 2 ^ (n * 2)) % 2 ^ 64 ≤ 2 ^ 32
 mask_fits n h = let p : 4 ^ n ≤ 4 ^ 16 = pow-le-pow_right (omega arith) h in rw (bit n h) p
 
 pub masked : (n w : ℕ) → n ≤ 16 → bit_and w ((1 * 2 ^ (n * 2)) % 2 ^ 64 - 1) ≡ pack (unpack n w)
 masked n w h = rw (bit n h, ← pow4 n, and_mask w (n * 2), pow4 n, pack_unpack n w)
-
--- the bits of a mask, moved up by one
-pub doubled_fits : (x y : ℕ) → y < 2 ^ 63 → bit_and x y * 2 < 2 ^ 64
-doubled_fits x y h = omega (arith, and_le_r x y)
 
 -- one list behind the places of another: no bit is met twice
 pub or_sum : (n a b : ℕ) → a < 4 ^ n → bit_or a (b * 4 ^ n) ≡ a + b * 4 ^ n

@@ -45,7 +45,3 @@ past (x ∷ l) (suc i) h = past l i (omega arith)
 
 pub code_small : (k : ℕ) → code_at k < 2 ^ 32
 code_small k = omega (arith, and_le_r (3751936 / 2 ^ (k * 2)) 3)
-
--- a type's code in both memories
-pub code_fits : (x : ℕ) → bit_and x 3 * 4294967297 < 2 ^ 64
-code_fits x = omega (arith, and_le_r x 3)

@@ -1,5 +1,7 @@
 // A type's flat types in both memories have one count, and one number holds both words, the 32-bit memory's in its low half.
-// A count above 16 says that there is no list; 255 is written for it, as in a row.
+// A count above 16 says that there is no list; 255 is written for it, as in a row. The count stays a number, and is no Option: these are
+// words 5 to 7 of rows, which may be any numbers, and every function here promises its answer for all of them.
+// A `FlatList` has a count and packed types too. The types are two, so that both memories' words are never taken for one's.
 ghost use Rattle.std.specs.Prelude.{◌≡◌};
 ghost use Rattle.std.proofs.Math.Option.{some, get_or};
 ghost use Rattle.std.proofs.Math.ListN.{get_elem?};
@@ -11,11 +13,11 @@ ghost use Rattle.types.specs.Means.{memory_of};
 ghost use Rattle.flat_types.specs.Lists.{halves, whole, both_words, words_in, flat_in, Holds, words, good_flat};
 ghost use Rattle.flat_types.specs.Places.{one_i32, append_to, joined};
 
-use crate::join::{join_words, min};
+use crate::join::join_words;
 use crate::list::FlatList;
 use crate::packed::{BOTH, HALF, unused_zero};
 use crate::repeat::repeat_words;
-use types::{MAX_FLAT_TYPES, Memory, NO_FLAT_COUNT, flag_groups, max};
+use types::{MAX_FLAT_TYPES, Memory, NO_FLAT_COUNT, flag_groups};
 
 #[derive(Clone, Copy)]
 pub struct FlatTypes {
@@ -56,38 +58,36 @@ impl FlatTypes {
     {
         FlatTypes {
             count,
-            words: word64 as u64 * HALF + word32 as u64,
+            words: u64::from(word64) * HALF + u64::from(word32),
         }
     }
 
     pub fn word32(self) -> u32
         ensures { result ≡ (halves self.words).in32 }
     {
-        let word = self.words % HALF;
-        word as u32
+        (self.words % HALF) as u32
     }
 
     pub fn word64(self) -> u32
         ensures { result ≡ (halves self.words).in64 }
     {
-        let word = self.words / HALF;
-        word as u32
+        (self.words / HALF) as u32
     }
 
     // Gives the list of a reference without a definition, none for every other word.
     pub fn plain(reference: u32) -> FlatTypes
         ensures { Holds result (λ m. map_option (flatten m) (get_elem? trees.plain reference)) }
     {
-        if reference > 17 {
-            return FlatTypes::NONE;
-        }
-        if reference == 12 {
-            return FlatTypes::POINTER_PAIR;
-        }
-        let code = (SCALARS >> (reference * 2)) & 3;
-        FlatTypes {
-            count: 1,
-            words: code * BOTH,
+        match reference {
+            12 => FlatTypes::POINTER_PAIR,
+            0..=17 => {
+                let code = (SCALARS >> (reference * 2)) & 3;
+                FlatTypes {
+                    count: 1,
+                    words: code * BOTH,
+                }
+            }
+            _ => FlatTypes::NONE,
         }
     }
 
@@ -127,18 +127,19 @@ impl FlatTypes {
     }
 
     // Takes a variant's step: the types of one more payload are joined to those so far.
+    #[tactic(auto, unfolding(crate::specs::Places::joined))]
     pub fn join(self, next: FlatTypes) -> FlatTypes
         ensures { both_words result ≡ joined (both_words self) (both_words next) }
     {
-        let m = self.count;
-        let n = next.count;
-        let count = max(m, n);
+        let count = self.count.max(next.count);
         if count > MAX_FLAT_TYPES {
             return FlatTypes::NONE;
         }
-        let least = min(m, n);
-        let words = join_words(least, self.words, next.words);
-        FlatTypes { count, words }
+        let least = self.count.min(next.count);
+        FlatTypes {
+            count,
+            words: join_words(least, self.words, next.words),
+        }
     }
 
     // Makes a variant's list of its joined payloads.
@@ -152,51 +153,37 @@ impl FlatTypes {
     pub fn repeat(self, n: u32) -> FlatTypes
         ensures { Holds result (λ m. map_option (copies n) (flat_in m self)) }
     {
-        let m = self.count;
-        if m > MAX_FLAT_TYPES {
+        // The library's `saturating_mul` divides, which takes longer than the product of two wide numbers.
+        let count = u64::from(self.count) * u64::from(n);
+        if self.count > MAX_FLAT_TYPES || count > u64::from(MAX_FLAT_TYPES) {
             return FlatTypes::NONE;
         }
-        let product = m as u64 * n as u64;
-        if product > MAX_FLAT_TYPES as u64 {
-            return FlatTypes::NONE;
+        FlatTypes {
+            count: count as u32,
+            words: repeat_words(self.count, self.words, n),
         }
-        let count = product as u32;
-        let words = repeat_words(m, self.words, n);
-        FlatTypes { count, words }
     }
 
     // Tells whether a row may hold these three words.
+    #[tactic(auto, using(crate::proofs::Listing::bad_flat, crate::proofs::Listing::good_flat_lem))]
     pub fn is_good(self) -> bool
         ensures { result ≡ good_flat self }
     {
         let count = types_of(self.count);
-        if count > MAX_FLAT_TYPES {
-            return false;
-        }
-        let either = self.word32() | self.word64();
-        unused_zero(count, either)
+        count <= MAX_FLAT_TYPES && unused_zero(count, self.word32() | self.word64())
     }
 
     // Gives the count and the word of one memory alone.
     pub fn in_memory(self, memory: Memory) -> FlatList
         ensures { words result ≡ words_in (memory_of memory) self }
     {
-        let count = self.count;
-        match memory {
-            Memory::Memory32 => {
-                let word = self.word32();
-                FlatList {
-                    count,
-                    types: word as u64,
-                }
-            }
-            Memory::Memory64 => {
-                let word = self.word64();
-                FlatList {
-                    count,
-                    types: word as u64,
-                }
-            }
+        let word = match memory {
+            Memory::Memory32 => self.word32(),
+            Memory::Memory64 => self.word64(),
+        };
+        FlatList {
+            count: self.count,
+            types: u64::from(word),
         }
     }
 }

@@ -1,28 +1,23 @@
 // Joins both memories' lists place by place, all places at once.
-ghost use Rattle.std.specs.Prelude.{◌≡◌, ◌≤◌, min};
+ghost use Rattle.std.specs.Prelude.{◌≡◌, ◌≤◌};
 ghost use Rattle.flat_types.specs.Places.{join_word};
 
-use crate::packed::{BOTH, used};
+use crate::packed::used;
 
 // Has the low bit of each of 32 places (16 in each half).
 const LOW: u64 = 0x5555_5555_5555_5555;
 
-// Has the high bit of each of 16 places.
-const HIGH: u64 = 0xAAAA_AAAA;
-
-pub(crate) fn min(m: u32, n: u32) -> u32
-    ensures { result ≡ min m n }
-{
-    if m < n { m } else { n }
-}
+// Has the high bit of each of them.
+const HIGH: u64 = 0xAAAA_AAAA_AAAA_AAAA;
 
 // Takes the bits of either; but in the first n places, which both lists have, the high bit goes where the two differ
 // (I32 and F32 give I32, every other two types I64).
+#[tactic(auto, using(crate::proofs::Copying::high_bits))]
 pub(crate) fn join_words(n: u32, a: u64, b: u64) -> u64
     requires { n ≤ 16 }
     ensures { result ≡ join_word n a b }
 {
-    let shared = used(n, HIGH) * BOTH;
+    let shared = used(n, HIGH);
     let apart = a ^ b;
     let differ = apart | ((apart & LOW) * 2);
     let either = a | b;

@@ -34,19 +34,19 @@ impl FlatList {
     };
 
     // Puts one list behind another; more than max types are none. Nothing is masked: the lists of good rows have no unused bits.
+    #[tactic(auto, using(crate::proofs::Masks::pow4), unfolding(crate::specs::Places::append_to))]
     fn append_to(self, max: u32, next: FlatList) -> FlatList
         requires { max ≤ 17 }
         ensures { words result ≡ append_to max (words self) (words next) }
     {
-        let m = self.count;
-        let n = next.count;
-        let sum = m as u64 + n as u64;
-        if sum > max as u64 {
+        let count = self.count.saturating_add(next.count);
+        if count > max {
             return FlatList::NONE;
         }
-        let types = self.types | (next.types << (m * 2));
-        let count = sum as u32;
-        FlatList { count, types }
+        FlatList {
+            count,
+            types: self.types | (next.types << (self.count * 2)),
+        }
     }
 
     // Puts one list behind another.
@@ -60,8 +60,10 @@ impl FlatList {
     pub fn with_pointer(self, memory: Memory) -> FlatList
         ensures { words result ≡ append_to 17 (words self) (record { number = 1; types = code (ptr_type (memory_of memory)) }) }
     {
-        let types = pointer_code(memory);
-        let pointer = FlatList { count: 1, types };
+        let pointer = FlatList {
+            count: 1,
+            types: pointer_code(memory),
+        };
         self.append_to(MAX_FLAT_TYPES + 1, pointer)
     }
 }

@@ -10,17 +10,9 @@ pub(crate) const HALF: u64 = 0x1_0000_0000;
 // Has a one in each half: a product with it puts one memory's word into both.
 pub(crate) const BOTH: u64 = 0x1_0000_0001;
 
-// Keeps the first types of a word and clears the bits above them.
-pub(crate) fn used(count: u32, word: u64) -> u64
-    requires { count ≤ 16 }
-    ensures { result ≡ pack (unpack count word) }
-{
-    let ones = (1u64 << (count * 2)) - 1;
-    word & ones
-}
-
-// Does the same in each half.
-pub(crate) fn used_both(count: u32, words: u64) -> u64
+// Keeps the first types of each half and clears the bits above them.
+#[tactic(auto, using(crate::proofs::Halves::masked_both))]
+pub(crate) fn used(count: u32, words: u64) -> u64
     requires { count ≤ 16 }
     ensures { result ≡ whole (both (λ m. pack (unpack count (within m (halves words))))) }
 {
@@ -29,10 +21,10 @@ pub(crate) fn used_both(count: u32, words: u64) -> u64
 }
 
 // Tells whether nothing lies above the first types of a word.
+#[tactic(auto, using(crate::proofs::Masks::pow4))]
 pub(crate) fn unused_zero(count: u32, word: u32) -> bool
     requires { count ≤ 16 }
     ensures { result ≡ eqb (word / 4 ^ count) 0 }
 {
-    let above = word as u64 >> (count * 2);
-    above == 0
+    u64::from(word) >> (count * 2) == 0
 }

@@ -6,9 +6,10 @@ ghost use Rattle.canon.specs.Pack.{pack, unpack};
 ghost use Rattle.flat_types.specs.Lists.{halves, whole};
 ghost use Rattle.flat_types.specs.Places.{ones};
 
-use crate::packed::used_both;
+use crate::packed::used;
 
 // Has a one at the first place of each copy, for as many copies as 16 types hold: every 2nd bit, every 4th, every 6th ..
+#[tactic(auto, using(crate::proofs::Copying::one_copy))]
 fn every(count: u32) -> u64
     requires { count ≤ 16 }
     ensures { result ≡ ones (16 / count) (4 ^ count) }
@@ -28,11 +29,11 @@ fn every(count: u32) -> u64
 }
 
 // Keeps the first n copies of as many as 16 types hold.
+#[tactic(auto, using(crate::proofs::Copying::repeated_fits, crate::proofs::Copying::repeated_both))]
 pub(crate) fn repeat_words(m: u32, words: u64, n: u32) -> u64
     requires { (m ≤ 16) × (m * n ≤ 16) }
     ensures { result ≡ whole (both (λ i. pack (copies n (unpack m (within i (halves words)))))) }
 {
-    let count = m * n;
-    let all = used_both(m, words) * every(m);
-    used_both(count, all)
+    let all = used(m, words) * every(m);
+    used(m * n, all)
 }

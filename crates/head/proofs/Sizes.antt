@@ -1,13 +1,9 @@
 -- The packed shapes are the ten kinds' own, and a body has the words before its references, the references and the numbers.
 use mathlib.Core.Path.{◌≡◌, refl}
-use mathlib.Core.Bool.{true}
-use Prim.Native.Nat.{ℕ, ◌+◌, ◌-◌, ◌*◌, ◌/◌, ◌%◌, ◌^◌, ◌<◌, ◌≤◌}
+use Prim.Native.Nat.{ℕ, ◌+◌, ◌*◌, ◌/◌, ◌%◌, ◌^◌, ◌≤◌}
 use native.Mathlib.Omega.{arith}
-use lib.Dec.{ltb}
-use borrow.Author.Tests.{lt-ltb}
 use Rattle.canon.specs.Types.{kind_word}
 use Rattle.canon.specs.Description.{Shape, counted, fixed, shape_of, body_length}
-use Rattle.canon.proofs.Bodies.{body_some}
 use Rattle.head.specs.Heads.{before, many, behind}
 use Rattle.canon.specs.Types.{Kind, k_record, k_variant, k_list, k_tuple, k_map, k_flags, k_enum, k_option, k_result, k_fixed}
 
@@ -50,26 +46,6 @@ length_bits = each_kind _ refl refl refl refl refl refl refl refl refl refl
 
 -- Lengths
 
-pub with_counted : (s : Shape) (n : ℕ) → body_length s 0 + before s * n ≡ body_length s n
-with_counted counted n = omega arith
-with_counted (fixed r k) n = omega arith
-
-pub counted_few : (s : Shape) (n : ℕ) → before s * n ≤ n
-counted_few counted n = omega arith
-counted_few (fixed r k) n = omega arith
-
 pub body_parts : (s : Shape) (n : ℕ) → before s + many s n + behind s ≡ body_length s n
 body_parts counted n = omega arith
 body_parts (fixed r k) n = omega arith
-
--- the references end before the numbers
-pub end_back : (s : Shape) (n from : ℕ) → from + body_length s n - behind s ≡ from + before s + many s n
-end_back s n from = omega (arith, body_parts s n)
-
-pub before_small : (s : Shape) → before s ≤ 1
-before_small counted = omega arith
-before_small (fixed r k) = omega arith
-
--- where no word is left, a body is cut off
-pub nothing_left : (k : Kind) (n left : ℕ) → left < 1 → ltb left (body_length (shape_of k) n) ≡ true
-nothing_left k n left h = lt-ltb left (body_length (shape_of k) n) (omega (arith, body_some k n))

@@ -1,16 +1,9 @@
 -- What this crate's values stand for.
-use Rattle.std.proofs.Math.Option.{Option, none, some}
-use Rattle.canon.specs.Answer.{Leaf, is, no}
 use Rattle.canon.specs.Types as trees
-use Rattle.types.specs.Means.{number_of}
 use Rattle.head.specs.Heads.{Heading}
 use Rattle.head.specs.declared.Kind.{Kind}
 use Rattle.head.specs.declared.Kind.TheVariants as kind
-use Rattle.head.specs.declared.Kinded.{Kinded}
-use Rattle.head.specs.declared.Kinded.TheVariants as kinded
 use Rattle.head.specs.declared.Heading as declared
-use Rattle.head.specs.declared.Head.{Head}
-use Rattle.head.specs.declared.Head.TheVariants as head
 
 abbrev pub kind_means : Kind → trees.Kind
 kind_means kind.Record = trees.k_record
@@ -24,13 +17,5 @@ kind_means kind.Option = trees.k_option
 kind_means kind.Result = trees.k_result
 kind_means kind.FixedLengthList = trees.k_fixed
 
-abbrev pub kinded_means : Kinded → Option trees.Kind
-kinded_means (kinded.Kind k) = some (kind_means k)
-kinded_means kinded.Bad = none
-
 abbrev pub heading_means : declared.Heading → Heading
 heading_means h = record { kind = kind_means h.kind; count = h.count; first = h.first; end = h.end; next = h.next }
-
-abbrev pub head_means : Head → Leaf Heading
-head_means (head.Is h) = is (heading_means h)
-head_means (head.Refused x) = no (number_of x)

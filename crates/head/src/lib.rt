@@ -2,33 +2,31 @@
 // body says is tested here: neither a count nor a reference.
 #![tactic(auto)]
 
-ghost use Rattle.std.specs.Prelude.{◌≡◌, ◌*◌, ◌/◌, ◌%◌, ◌^◌, ◌≤◌, length};
+ghost use Rattle.std.specs.Prelude.{◌≡◌, ◌*◌, ◌/◌, ◌%◌, ◌^◌, ◌≤◌, length, MatchResult};
+ghost use Rattle.std.proofs.Math.Option.{none, some};
 ghost use Rattle.canon.specs.Description.{kind_of};
-ghost use Rattle.head.specs.Means.{kind_means, kinded_means, head_means};
+ghost use Rattle.head.specs.Means.{kind_means, heading_means};
+ghost use Rattle.types.specs.Means.{leaf};
 ghost use Rattle.canon.specs.Types.{kind_word};
 ghost use Rattle.canon.specs.Description.{shape_of, body_length};
+ghost use Rattle.types.specs.declared.refusal.Refusal.TheVariants.{BadKind};
 ghost use Rattle.head.specs.Heads.{before, behind, body_at, head_at};
 
 use types::Refusal;
 
+// The discriminants are the kind words of 01, which are the first words of rows too.
 #[derive(Clone, Copy)]
 pub enum Kind {
-    Record,
-    Variant,
-    List,
-    Tuple,
-    Map,
-    Flags,
-    Enum,
-    Option,
-    Result,
-    FixedLengthList,
-}
-
-#[derive(Clone, Copy)]
-enum Kinded {
-    Kind(Kind),
-    Bad,
+    Record = 1,
+    Variant = 2,
+    List = 3,
+    Tuple = 4,
+    Map = 5,
+    Flags = 6,
+    Enum = 7,
+    Option = 8,
+    Result = 9,
+    FixedLengthList = 10,
 }
 
 // The references stand from `first` to before `end`, the next definition from `next` on. `count` is the word after the kind word,
@@ -42,12 +40,6 @@ pub struct Heading {
     pub next: usize,
 }
 
-#[derive(Clone, Copy)]
-pub enum Head {
-    Is(Heading),
-    Refused(Refusal),
-}
-
 // The shapes of the ten bodies, two bits for each kind word, 10 in front and 0 last: 1 where a count stands first, ..
 const COUNTED: u32 = 0b00_00_00_00_00_00_01_00_01_01_00;
 
@@ -57,63 +49,38 @@ const NUMBERS: u32 = 0b01_00_00_01_01_00_00_00_00_00_00;
 // .. and how many words the whole body has but for references that are counted.
 const LENGTHS: u32 = 0b10_10_01_01_01_10_01_01_01_01_00;
 
-// The kind words of 01, which are the first words of rows too.
-pub const RECORD: u32 = 1;
+impl TryFrom<u32> for Kind {
+    type Error = Refusal;
 
-pub const VARIANT: u32 = 2;
+    ghost try_from_gives = { λ word r. MatchResult r (λ kind. kind_of word ≡ some (kind_means kind)) (λ why. (kind_of word ≡ none) × (why ≡ BadKind)) };
 
-pub const LIST: u32 = 3;
-
-pub const TUPLE: u32 = 4;
-
-pub const MAP: u32 = 5;
-
-pub const FLAGS: u32 = 6;
-
-pub const ENUM: u32 = 7;
-
-pub const OPTION: u32 = 8;
-
-pub const RESULT: u32 = 9;
-
-pub const FIXED_LENGTH_LIST: u32 = 10;
-
-fn kind_of(word: u32) -> Kinded
-    ensures { kinded_means result ≡ kind_of word }
-{
-    match word {
-        RECORD => Kinded::Kind(Kind::Record),
-        VARIANT => Kinded::Kind(Kind::Variant),
-        LIST => Kinded::Kind(Kind::List),
-        TUPLE => Kinded::Kind(Kind::Tuple),
-        MAP => Kinded::Kind(Kind::Map),
-        FLAGS => Kinded::Kind(Kind::Flags),
-        ENUM => Kinded::Kind(Kind::Enum),
-        OPTION => Kinded::Kind(Kind::Option),
-        RESULT => Kinded::Kind(Kind::Result),
-        FIXED_LENGTH_LIST => Kinded::Kind(Kind::FixedLengthList),
-        _ => Kinded::Bad,
+    // Refuses BadKind for every other word.
+    #[tactic(auto, unfolding(canon::specs::Description::kind_of))]
+    fn try_from(word: u32) -> Result<Kind, Refusal> {
+        match word {
+            1 => Ok(Kind::Record),
+            2 => Ok(Kind::Variant),
+            3 => Ok(Kind::List),
+            4 => Ok(Kind::Tuple),
+            5 => Ok(Kind::Map),
+            6 => Ok(Kind::Flags),
+            7 => Ok(Kind::Enum),
+            8 => Ok(Kind::Option),
+            9 => Ok(Kind::Result),
+            10 => Ok(Kind::FixedLengthList),
+            _ => Err(Refusal::BadKind),
+        }
     }
 }
 
 pub fn kind_word(kind: Kind) -> u32
     ensures { result ≡ kind_word (kind_means kind) }
 {
-    match kind {
-        Kind::Record => RECORD,
-        Kind::Variant => VARIANT,
-        Kind::List => LIST,
-        Kind::Tuple => TUPLE,
-        Kind::Map => MAP,
-        Kind::Flags => FLAGS,
-        Kind::Enum => ENUM,
-        Kind::Option => OPTION,
-        Kind::Result => RESULT,
-        Kind::FixedLengthList => FIXED_LENGTH_LIST,
-    }
+    kind as u32
 }
 
 // Takes the two bits of a kind.
+#[tactic(auto, using(crate::proofs::Sizes::word_small))]
 fn bits(packed: u32, kind: Kind) -> usize
     ensures { result ≡ packed / 2 ^ (2 * kind_word (kind_means kind)) % 4 }
 {
@@ -121,12 +88,14 @@ fn bits(packed: u32, kind: Kind) -> usize
     ((packed >> shift) % 4) as usize
 }
 
+#[tactic(auto, using(crate::proofs::Sizes::counted_bits))]
 fn before_references(kind: Kind) -> usize
     ensures { result ≡ before (shape_of (kind_means kind)) }
 {
     bits(COUNTED, kind)
 }
 
+#[tactic(auto, using(crate::proofs::Sizes::number_bits))]
 fn behind_references(kind: Kind) -> usize
     ensures { result ≡ behind (shape_of (kind_means kind)) }
 {
@@ -134,27 +103,25 @@ fn behind_references(kind: Kind) -> usize
 }
 
 // How many words follow the kind word.
+#[tactic(auto, using(crate::proofs::Sizes::length_bits))]
 fn body_length(kind: Kind, count: u32) -> usize
     ensures { result ≡ body_length (shape_of (kind_means kind)) count }
 {
     bits(LENGTHS, kind) + before_references(kind) * count as usize
 }
 
-fn body(words: &[u32], from: usize, kind: Kind) -> Head
+#[tactic(auto, unfolding(crate::specs::Heads::body_at))]
+fn body(words: &[u32], from: usize, kind: Kind) -> Result<Heading, Refusal>
     requires { from ≤ length words.now }
-    ensures { head_means result ≡ body_at (kind_means kind) words.now from }
+    ensures { leaf heading_means result ≡ body_at (kind_means kind) words.now from }
 {
-    let left = words.len() - from;
-    if left < 1 {
-        return Head::Refused(Refusal::Truncated);
-    }
-    let count = words[from];
+    let count = *words.get(from).ok_or(Refusal::Truncated)?;
     let length = body_length(kind, count);
-    if left < length {
-        return Head::Refused(Refusal::Truncated);
+    if words.len() - from < length {
+        return Err(Refusal::Truncated);
     }
     let next = from + length;
-    Head::Is(Heading {
+    Ok(Heading {
         kind,
         count,
         first: from + before_references(kind),
@@ -165,14 +132,11 @@ fn body(words: &[u32], from: usize, kind: Kind) -> Head
 
 // Reads the definition that begins at a place. Refuses Truncated for a place past the end, then BadKind, then Truncated for a body that runs
 // past the end.
-pub fn read_head(words: &[u32], at: usize) -> Head
-    ensures { head_means result ≡ head_at words.now at }
+#[tactic(auto, unfolding(crate::specs::Heads::head_at, crate::specs::Heads::head_kind))]
+pub fn read_head(words: &[u32], at: usize) -> Result<Heading, Refusal>
+    ensures { leaf heading_means result ≡ head_at words.now at }
 {
-    if words.len() <= at {
-        return Head::Refused(Refusal::Truncated);
-    }
-    match kind_of(words[at]) {
-        Kinded::Bad => Head::Refused(Refusal::BadKind),
-        Kinded::Kind(kind) => body(words, at + 1, kind),
-    }
+    let word = *words.get(at).ok_or(Refusal::Truncated)?;
+    let kind = Kind::try_from(word)?;
+    body(words, at + 1, kind)
 }

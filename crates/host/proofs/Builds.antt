@@ -10,7 +10,7 @@ use lib.ListN.{length, get_or, take, drop, length-take, length-map, take-append-
 use lib.Seq.{take-suc, take_all, length-take-le}
 use borrow.Author.Tests.{le-ltb}
 use Rattle.build.specs.Means.{accepted}
-use Rattle.build.proofs.Accepted.{accepted_types}
+use Rattle.build.proofs.Accepts.{accepted_types}
 use Rattle.canon.specs.Answer.{Answer, unless, too_long, truncated}
 use Rattle.canon.specs.Description.{Built, answered, built, build_answer, table_after}
 use Rattle.canon.specs.Cost.{rows_read, reported, build_reads}

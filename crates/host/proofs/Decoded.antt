@@ -5,7 +5,7 @@ use Prim.Native.Nat.{ℕ, ◌*◌, ◌/◌, ◌≤◌, ◌<◌, min}
 use native.Mathlib.Decide.{dec_le}
 use native.Mathlib.Omega.{arith}
 use lib.Dec.{eqb}
-use lib.ListN.{length, get_or, take, drop, length-take, drop_of_length-le}
+use lib.ListN.{length, get_or, take, drop, replicate, length-replicate, length-take, drop_of_length-le}
 use lib.Seq.{take_all}
 use borrow.Author.Tests.{eq-eqb, ne_eqb}
 use Rattle.canon.specs.Description.{table_after}
@@ -16,23 +16,20 @@ use Rattle.canon.specs.Question.{borrow_answer, buffer_after}
 use Rattle.canon.specs.Gaps.{Padded, room_of, padding, lent_after}
 use Rattle.canon.proofs.Capped.{Enough, ask_first, ask_two_first, table_after_first, placement_first, placement_reads_first, after_first, padding_first, lent_first}
 use Rattle.words.specs.Words.{whole_words, put_words}
-use Rattle.words.proofs.Laws.{length_whole, front_read, put_rest}
+use Rattle.words.proofs.Laws.{length_whole, put_rest}
 use Rattle.host.specs.Numbers.{placement_call}
 use Rattle.host.specs.Questions.{question_number}
 use Rattle.signature.proofs.Asking.{question_two}
 use Rattle.host.specs.declared.question.Question.{Question}
 use Rattle.host.specs.declared.question.Question.TheVariants as question
 
--- the front of a buffer of c words, where words were decoded
-pub front :
-    (b w : List ℕ) {u : List ℕ} {n : ℕ} (c : ℕ) → length w ≡ c → n ≡ min (length b / 4) (length w) → u ≡ take n (whole_words b) ++ drop n w →
-    take n u ≡ take c (whole_words b)
-front b w {u} {n} c l e f = front_read b w u n e f ∙ ap (λ (i : ℕ). take i (whole_words b)) l
+-- what was decoded into an array of c zeros: the first c words, all where there are no more
 
-pub front_all :
-    (b w : List ℕ) {u : List ℕ} {n : ℕ} (c : ℕ) → length w ≡ c → length b ≤ 4 * c → n ≡ min (length b / 4) (length w) → u ≡ take n (whole_words b) ++ drop n w →
-    take n u ≡ whole_words b
-front_all b w {u} {n} c l h e f = front b w c l e f ∙ take_all c (whole_words b) (omega (arith, length_whole b))
+pub front : (b : List ℕ) {u : List ℕ} (c : ℕ) → u ≡ take (length {A = ℕ} (replicate c 0)) (whole_words b) → u ≡ take c (whole_words b)
+front b c e = e ∙ ap (λ (i : ℕ). take i (whole_words b)) (length-replicate c 0)
+
+pub front_all : (b : List ℕ) {u : List ℕ} (c : ℕ) → length b ≤ 4 * c → u ≡ take (length {A = ℕ} (replicate c 0)) (whole_words b) → u ≡ whole_words b
+front_all b c h e = front b c e ∙ take_all c (whole_words b) (omega (arith, length_whole b))
 
 -- a list has no words where its first words are none
 empty_first : (ws : List ℕ) → eqb (length (take 16385 ws)) 0 ≡ eqb (length ws) 0

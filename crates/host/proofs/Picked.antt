@@ -6,8 +6,8 @@ use Prim.Native.Nat.{ℕ, ◌+◌, ◌-◌, ◌≤◌, ◌<◌}
 use native.Mathlib.Decide.{ℕ_discrete, dec_le}
 use native.Mathlib.Omega.{arith}
 use lib.Dec.{ltb}
-use lib.ListN.{length, get_or, get_elem?, set, take}
-use lib.Seq.{get_or-set_same, get_or-set_other, get_or-take, length-take-le}
+use lib.ListN.{length, get_or, get_elem?, set}
+use lib.Seq.{get_or-set_same, get_or-set_other}
 use borrow.Author.Tests.{lt-ltb, le-ltb, lt-leb, le-leb}
 use Rattle.canon.specs.Answer.{no as refuses, bad_ref}
 use Rattle.canon.specs.Types.{plain}
@@ -32,6 +32,7 @@ read_undefined : (t : List ℕ) (n w : ℕ) → 64 ≤ w → n ≤ w - 64 → re
 unfolding read
 read_undefined t n w h l = rw (le-leb 64 w h, le-ltb (w - 64) n l)
 
+-- whether a table is there, by its number of words
 pub no_rows_is : (words n : ℕ) (t : List ℕ) → length t ≡ words → ltb (capacity words) n ≡ no_table t n
 unfolding no_table
 no_rows_is words n t e = rw e
@@ -101,9 +102,8 @@ module _ (slot k : ℕ) (p us t : List ℕ) (n : ℕ) (ws : List ℕ) (g : Picki
             rw (get_or-set_other us k j v 0 e) (omega (arith, one.0), keeps.kept (get_or us j 0) (omega (arith, one.0)) ∙ one.1)
       ]
 
-  pub picking_all : k ≡ length ws → k ≤ length us → Names (slot + k) p (take k us) t n ws
-  picking_all e l =
-      record { count = length-take-le k us l ∙ e; alike = λ j h. let less : j < k = omega arith in rw (get_or-take k us j 0 less) (g j less) }
+  pub picking_all : k ≡ length ws → k ≡ length us → Names (slot + k) p us t n ws
+  picking_all e l = record { count = sym l ∙ e; alike = λ j h. g j (omega arith) }
 
 pub names_kept :
     (slot slot' : ℕ) (p q us t : List ℕ) (n : ℕ) (ws : List ℕ) → Names slot p us t n ws → Keeps slot' p q → slot ≤ slot' → Names slot q us t n ws

@@ -28,7 +28,7 @@ use Rattle.types.specs.Leaves.{Rounding, given, fitting, rounding_to, align_to}
 use Rattle.types.proofs.RoundLaws.{alignment_most}
 use Rattle.words.specs.Words.{whole_words}
 use Rattle.build.specs.Means.{accepted}
-use Rattle.build.proofs.Accepted.{accepted_types}
+use Rattle.build.proofs.Accepts.{accepted_types}
 use Rattle.host.specs.Numbers.{memory_at, refusal_number, leaf_number, rounding_number, build_number, build_call, placement_number, placement_call}
 use Rattle.host.specs.Bytes.{too_many_bytes, cut_bytes, build_bytes, reads_of_bytes}
 use Rattle.host.specs.Short.{ShortLayout, ShortGap, IfAnswered}

@@ -20,7 +20,6 @@ use Rattle.host.specs.Numbers.{refusal_number, placement_call}
 use Rattle.host.specs.Picked.{read_picked, Names}
 use Rattle.host.specs.Questions.{question_number}
 use Rattle.signature.proofs.Asking.{question_two}
-use Rattle.host.proofs.Picked.{no_rows_is}
 use Rattle.canon.proofs.Questions.{placing_starts}
 use Rattle.canon.proofs.Gaps.{placing_of, padding_placing}
 use Rattle.canon.proofs.Costs.{infos_rows}
@@ -97,7 +96,8 @@ room_32 = refl
 
 module _ (p t : List ℕ) (m n : ℕ) (rows : capacity (length p) ≡ m) (there : no_table t n ≡ false) where
   mine : no_table p m ≡ false
-  mine = rw (← rows) (sym (no_rows_is (length p) (capacity (length p)) p refl) ∙ le-ltb (capacity (length p)) (capacity (length p)) (omega arith))
+  unfolding no_table
+  mine = rw (← rows) (le-ltb (capacity (length p)) (capacity (length p)) (omega arith))
 
   pub type_alike : (v w : ℕ) → read_picked p v ≡ read t n w → type_answer p m v ≡ type_answer t n w
   unfolding type_answer unless

@@ -8,13 +8,14 @@ ghost use Rattle.host.specs.Numbers.{build_number, build_call};
 ghost use Rattle.host.specs.Bytes.{build_bytes, reads_of_bytes, table_bytes};
 ghost use Rattle.host.specs.Local.{with_rows};
 
+use crate::lent::decoded;
 use crate::packing::{built_number, refused};
 use crate::pick::TABLE_BYTES;
 use crate::tables::lampughjata_build;
-use build::{MAX_BYTES, MAX_WORDS, build};
+use build::{MAX_BYTES, MAX_WORDS, accepted, build};
 use table::{DefinitionIndex, ROW_WORDS, TABLE_WORDS, capacity, give_row};
 use types::Refusal;
-use words::{put_words, words_of};
+use words::put_words;
 
 // The most words of a description that is built in a local table.
 const SHORT_WORDS: usize = 64;
@@ -42,19 +43,15 @@ fn build_long(words: &[u8], table: &mut [u8]) -> u64
     ensures table_after { table.new ≡ put_words 0 (table_after (whole_words words.now) (whole_words table.old)) table.old }
 {
     let mut ws = [0u32; MAX_WORDS];
-    let count = words_of(words, &mut ws);
     let mut ts = [0u32; TABLE_WORDS];
-    let room = words_of(table, &mut ts);
-    build_into(&ws[..count], &mut ts[..room], table)
+    build_into(decoded(words, &mut ws), decoded(table, &mut ts), table)
 }
 
 fn give_rows(table: &[u32], rows: u32, bytes: &mut [u8])
     ensures { bytes.new ≡ put_words 0 (with_rows table.now rows (whole_words bytes.old)) bytes.old }
 {
-    let mut i: u32 = 0;
-    while i < rows {
+    for i in 0..rows {
         give_row(table, DefinitionIndex(i), bytes);
-        i += 1;
     }
 }
 
@@ -64,7 +61,7 @@ fn build_rows(words: &[u32], table: &mut [u32], bytes: &mut [u8]) -> u64
     ensures bytes_after { bytes.new ≡ put_words 0 (table_after words.now (whole_words bytes.old)) bytes.old }
 {
     let built = build(words, table);
-    give_rows(table, built.accepted(), bytes);
+    give_rows(table, accepted(built), bytes);
     built_number(built)
 }
 
@@ -72,12 +69,7 @@ fn build_rows(words: &[u32], table: &mut [u32], bytes: &mut [u8]) -> u64
 fn local_words(bytes: &[u8]) -> usize
     ensures { result ≡ 16 * min 32 (capacity (length bytes.now / 4)) }
 {
-    let room = capacity(bytes.len() / 4);
-    if room < LOCAL_ROWS {
-        ROW_WORDS * room
-    } else {
-        LOCAL_WORDS
-    }
+    ROW_WORDS * capacity(bytes.len() / 4).min(LOCAL_ROWS)
 }
 
 fn build_short(words: &[u8], table: &mut [u8]) -> u64
@@ -86,10 +78,9 @@ fn build_short(words: &[u8], table: &mut [u8]) -> u64
     ensures table_after { table.new ≡ put_words 0 (table_after (whole_words words.now) (whole_words table.old)) table.old }
 {
     let mut ws = [0u32; SHORT_WORDS];
-    let count = words_of(words, &mut ws);
-    let room = local_words(table);
     let mut ts = [0u32; LOCAL_WORDS];
-    build_rows(&ws[..count], &mut ts[..room], table)
+    let room = local_words(table);
+    build_rows(decoded(words, &mut ws), &mut ts[..room], table)
 }
 
 // Refuses TooLong for the bytes, then Truncated for a length that is not a multiple of four, then as over words.

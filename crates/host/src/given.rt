@@ -2,10 +2,10 @@
 ghost use Rattle.std.specs.Prelude.{◌≡◌};
 ghost use Rattle.types.specs.Means.{memory_of, count_means, abi_means};
 ghost use Rattle.signature.specs.Means.{context_means, side_means};
-ghost use Rattle.host.specs.Numbers.{memory_at, is_set, side_at, context_at, flat_at, info_flat_at, abi_at};
+ghost use Rattle.host.specs.Numbers.{memory_at, side_at, context_at, flat_at, info_flat_at, abi_at};
 
 use signature::{Context, Side};
-use types::{CanonicalAbiInfo, FlatCount, MAX_FLAT_TYPES, Memory, NO_FLAT_COUNT};
+use types::{CanonicalAbiInfo, MAX_FLAT_TYPES, Memory, NO_FLAT_COUNT};
 
 // A memory is 0 for 32-bit, any other number for 64-bit.
 pub(crate) fn memory_at(memory: u32) -> Memory
@@ -18,19 +18,13 @@ pub(crate) fn memory_at(memory: u32) -> Memory
     }
 }
 
-// Async is 0 for sync, any other number for async; a callback is 0 for none, any other number for one.
-pub(crate) fn is_set(x: u32) -> bool
-    ensures { result ≡ is_set x }
-{
-    if x == 0 { false } else { true }
-}
-
+// Async is 0 for sync, any other number for async.
 pub(crate) fn side_at(memory: u32, async_: u32) -> Side
     ensures { side_means result ≡ side_at memory async_ }
 {
     Side {
         memory: memory_at(memory),
-        async_: is_set(async_),
+        async_: async_ != 0,
     }
 }
 
@@ -46,29 +40,26 @@ pub(crate) fn context_at(lower: u32) -> Context
 }
 
 // None is 255, as in word 5 of a row, and every number above.
-pub(crate) fn flat_at(flat: u32) -> FlatCount
+pub(crate) fn flat_at(flat: u32) -> Option<u8>
     ensures { count_means result ≡ flat_at flat }
 {
     if flat < NO_FLAT_COUNT {
-        FlatCount::Count(flat as u8)
+        Some(flat as u8)
     } else {
-        FlatCount::None
+        None
     }
 }
 
 // Of the counts above 01's most, the next one stands for all: such an info is bad, whichever it is.
-const BAD_COUNT: u8 = MAX_FLAT_TYPES as u8 + 1;
+const BAD_COUNT: u32 = MAX_FLAT_TYPES + 1;
 
-fn info_flat_at(flat: u32) -> FlatCount
+fn info_flat_at(flat: u32) -> Option<u8>
     ensures { count_means result ≡ info_flat_at flat }
 {
-    if flat <= MAX_FLAT_TYPES {
-        return FlatCount::Count(flat as u8);
-    }
     if flat == NO_FLAT_COUNT {
-        FlatCount::None
+        None
     } else {
-        FlatCount::Count(BAD_COUNT)
+        Some(flat.min(BAD_COUNT) as u8)
     }
 }
 

@@ -3,14 +3,12 @@ ghost use Rattle.std.specs.Prelude.{◌≡◌, max};
 ghost use Rattle.canon.specs.Flat.{add_flat, max_flat};
 ghost use Rattle.canon.specs.Row.{count_word};
 ghost use Rattle.types.specs.Leaves.{align_to, next_field, discriminant_answer, flags_answer, enum_answer, fixed_answer};
-ghost use Rattle.types.specs.Means.{abi_means, next_means};
+ghost use Rattle.types.specs.Means.{leaf, abi_means, field_means};
 ghost use Rattle.host.specs.Numbers.{memory_at, flat_at, abi_at, leaf_number, itself, chosen, abi_words, rounding_number, field_words};
 
 use crate::given::{flat_at, info_of, memory_at};
-use crate::packing::{
-    discriminant_number, field_number, flat_number, info_number, rounded_number, wide,
-};
-use types::{CanonicalAbiInfo, DiscriminantSize, Memory, NextField};
+use crate::packing::{discriminant_number, field_number, flat_number, info_number, rounded_number};
+use types::{CanonicalAbiInfo, DiscriminantSize, Memory, NextField, Refusal};
 
 // Refuses BadRow for what is no alignment, then TooLarge for the rounded number.
 #[unsafe(no_mangle)]
@@ -25,7 +23,7 @@ pub extern "C" fn lampughjata_align_to(a: u32, b: u32) -> u64
 pub extern "C" fn lampughjata_max(a: u32, b: u32) -> u64
     ensures { result ≡ max a b }
 {
-    wide(types::max(a, b))
+    u64::from(types::max(a, b))
 }
 
 // Refuses nothing.
@@ -33,7 +31,7 @@ pub extern "C" fn lampughjata_max(a: u32, b: u32) -> u64
 pub extern "C" fn lampughjata_add_flat(a: u32, b: u32) -> u64
     ensures { result ≡ count_word (add_flat (flat_at a) (flat_at b)) }
 {
-    wide(flat_number(types::add_flat(flat_at(a), flat_at(b))))
+    u64::from(flat_number(types::add_flat(flat_at(a), flat_at(b))))
 }
 
 // Refuses nothing.
@@ -41,11 +39,11 @@ pub extern "C" fn lampughjata_add_flat(a: u32, b: u32) -> u64
 pub extern "C" fn lampughjata_max_flat(a: u32, b: u32) -> u64
     ensures { result ≡ count_word (max_flat (flat_at a) (flat_at b)) }
 {
-    wide(flat_number(types::max_flat(flat_at(a), flat_at(b))))
+    u64::from(flat_number(types::max_flat(flat_at(a), flat_at(b))))
 }
 
-fn next_field(memory: u32, info: CanonicalAbiInfo, end: u32) -> NextField
-    ensures { next_means result ≡ next_field (memory_at memory) (abi_means info) end }
+fn next_field(memory: u32, info: CanonicalAbiInfo, end: u32) -> Result<NextField, Refusal>
+    ensures { leaf field_means result ≡ next_field (memory_at memory) (abi_means info) end }
 {
     match memory_at(memory) {
         Memory::Memory32 => info.next_field32(end),

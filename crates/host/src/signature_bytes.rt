@@ -7,7 +7,7 @@ ghost use Rattle.signature.specs.Packs.{packed_flattened, packed_answer};
 ghost use Rattle.words.specs.Words.{whole_words};
 ghost use Rattle.host.specs.Numbers.{memory_at, is_set, side_at, context_at, answer_number, yes_number, chosen, flattened_number, signature_lists};
 
-use crate::given::{context_at, is_set, side_at};
+use crate::given::{context_at, side_at};
 use crate::question::{Question, ask_bytes};
 use signature::SignatureQuestion;
 
@@ -21,8 +21,7 @@ pub extern "C" fn lampughjata_flatten_bytes(
 ) -> u64
     ensures { result ≡ answer_number flattened_number (packed_flattened (flatten_answer (memory_at memory) max (whole_words table.now) rows (whole_words references.now))) }
 {
-    let question = Question::Flatten(memory, max);
-    ask_bytes(question, table, rows, references, &[])
+    ask_bytes(Question::Flatten(memory, max), table, rows, references, &[])
 }
 
 #[unsafe(no_mangle)]
@@ -35,8 +34,13 @@ pub extern "C" fn lampughjata_lowering_bytes(
 ) -> u64
     ensures { result ≡ answer_number flattened_number (packed_flattened (lowering_answer (side_at memory async_) (whole_words table.now) rows (whole_words references.now))) }
 {
-    let question = Question::Lowering(memory, async_);
-    ask_bytes(question, table, rows, references, &[])
+    ask_bytes(
+        Question::Lowering(memory, async_),
+        table,
+        rows,
+        references,
+        &[],
+    )
 }
 
 #[unsafe(no_mangle)]
@@ -49,8 +53,13 @@ pub extern "C" fn lampughjata_lifting_bytes(
 ) -> u64
     ensures { result ≡ answer_number flattened_number (packed_flattened (lifting_answer (side_at memory async_) (whole_words table.now) rows (whole_words references.now))) }
 {
-    let question = Question::Lifting(memory, async_);
-    ask_bytes(question, table, rows, references, &[])
+    ask_bytes(
+        Question::Lifting(memory, async_),
+        table,
+        rows,
+        references,
+        &[],
+    )
 }
 
 #[unsafe(no_mangle)]
@@ -66,9 +75,8 @@ pub extern "C" fn lampughjata_async_start_bytes(
 ) -> u64
     ensures { result ≡ answer_number (λ s. chosen k (signature_lists s)) (packed_answer (async_start_answer (whole_words table.now) rows (side_at lower_memory lower_async) (whole_words lowered.now) (side_at lift_memory 0) (whole_words lifted.now))) }
 {
-    let lower_side = side_at(lower_memory, lower_async);
-    let lift_side = side_at(lift_memory, 0);
-    let asked = SignatureQuestion::AsyncStart(lower_side, lift_side);
+    let lower = side_at(lower_memory, lower_async);
+    let asked = SignatureQuestion::AsyncStart(lower, side_at(lift_memory, 0));
     ask_bytes(Question::Signature(asked, k), table, rows, lowered, lifted)
 }
 
@@ -86,9 +94,9 @@ pub extern "C" fn lampughjata_async_return_bytes(
 ) -> u64
     ensures { result ≡ answer_number (λ s. chosen k (signature_lists s)) (packed_answer (async_return_answer (whole_words table.now) rows (side_at lift_memory lift_async) (whole_words lifted.now) (side_at lower_memory lower_async) (whole_words lowered.now))) }
 {
-    let lift_side = side_at(lift_memory, lift_async);
-    let lower_side = side_at(lower_memory, lower_async);
-    let asked = SignatureQuestion::AsyncReturn(lift_side, lower_side);
+    let lift = side_at(lift_memory, lift_async);
+    let lower = side_at(lower_memory, lower_async);
+    let asked = SignatureQuestion::AsyncReturn(lift, lower);
     ask_bytes(Question::Signature(asked, k), table, rows, lifted, lowered)
 }
 
@@ -108,8 +116,7 @@ pub extern "C" fn lampughjata_functype_bytes(
 {
     let context = context_at(lower);
     let side = side_at(memory, async_);
-    let called_back = is_set(callback);
-    let asked = SignatureQuestion::Functype(context, side, called_back);
+    let asked = SignatureQuestion::Functype(context, side, callback != 0);
     ask_bytes(Question::Signature(asked, k), table, rows, params, results)
 }
 
@@ -121,6 +128,5 @@ pub extern "C" fn lampughjata_contains_borrow_bytes(
 ) -> u64
     ensures { result ≡ answer_number yes_number (borrow_answer (whole_words table.now) rows (whole_words references.now)) }
 {
-    let question = Question::ContainsBorrow;
-    ask_bytes(question, table, rows, references, &[])
+    ask_bytes(Question::ContainsBorrow, table, rows, references, &[])
 }

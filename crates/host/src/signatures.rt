@@ -6,7 +6,7 @@ ghost use Rattle.canon.specs.Functype.{functype_answer};
 ghost use Rattle.signature.specs.Packs.{packed_flattened, packed_answer};
 ghost use Rattle.host.specs.Numbers.{memory_at, is_set, side_at, context_at, answer_number, yes_number, chosen, flattened_number, signature_lists};
 
-use crate::given::{context_at, is_set, memory_at, side_at};
+use crate::given::{context_at, memory_at, side_at};
 use crate::packing::{borrow_number, flattened_number, signature_number};
 use signature::{
     async_return_signature, async_start_signature, contains_borrow_resource, flatten_functype,
@@ -15,6 +15,7 @@ use signature::{
 
 // Refuses TooLong, then BadRow for the table, then BadCount for a maximum above 16, then the first bad reference.
 #[unsafe(no_mangle)]
+#[tactic(auto, using(crate::proofs::Short::flatten_short))]
 pub extern "C" fn lampughjata_flatten(
     memory: u32,
     max: u32,
@@ -29,6 +30,7 @@ pub extern "C" fn lampughjata_flatten(
 
 // Refuses TooLong, then BadRow for the table, then the first bad reference.
 #[unsafe(no_mangle)]
+#[tactic(auto, using(crate::proofs::Short::flatten_short))]
 pub extern "C" fn lampughjata_lowering(
     memory: u32,
     async_: u32,
@@ -43,6 +45,7 @@ pub extern "C" fn lampughjata_lowering(
 
 // Refuses TooLong, then BadRow for the table, then the first bad reference.
 #[unsafe(no_mangle)]
+#[tactic(auto, using(crate::proofs::Short::flatten_short))]
 pub extern "C" fn lampughjata_lifting(
     memory: u32,
     async_: u32,
@@ -57,6 +60,7 @@ pub extern "C" fn lampughjata_lifting(
 
 // Refuses TooLong for either list, then BadRow for the table, then the first bad reference of lower's, then of lift's.
 #[unsafe(no_mangle)]
+#[tactic(auto, using(crate::proofs::Short::start_short))]
 pub extern "C" fn lampughjata_async_start(
     lower_memory: u32,
     lower_async: u32,
@@ -69,15 +73,18 @@ pub extern "C" fn lampughjata_async_start(
 ) -> u64
     ensures { result ≡ answer_number (λ s. chosen k (signature_lists s)) (packed_answer (async_start_answer table.now rows (side_at lower_memory lower_async) lowered.now (side_at lift_memory 0) lifted.now)) }
 {
-    let lower_side = side_at(lower_memory, lower_async);
+    let lower = side_at(lower_memory, lower_async);
     // Whether lift is async plays no part in a start: 0 says that it is not.
-    let lift_side = side_at(lift_memory, 0);
-    let answer = async_start_signature(table, rows, lower_side, lowered, lift_side, lifted);
-    signature_number(answer, k)
+    let lift = side_at(lift_memory, 0);
+    signature_number(
+        async_start_signature(table, rows, lower, lowered, lift, lifted),
+        k,
+    )
 }
 
 // Refuses TooLong for either list, then BadRow for the table, then the first bad reference of lift's, then of lower's.
 #[unsafe(no_mangle)]
+#[tactic(auto, using(crate::proofs::Short::return_short))]
 pub extern "C" fn lampughjata_async_return(
     lift_memory: u32,
     lift_async: u32,
@@ -91,14 +98,17 @@ pub extern "C" fn lampughjata_async_return(
 ) -> u64
     ensures { result ≡ answer_number (λ s. chosen k (signature_lists s)) (packed_answer (async_return_answer table.now rows (side_at lift_memory lift_async) lifted.now (side_at lower_memory lower_async) lowered.now)) }
 {
-    let lift_side = side_at(lift_memory, lift_async);
-    let lower_side = side_at(lower_memory, lower_async);
-    let answer = async_return_signature(table, rows, lift_side, lifted, lower_side, lowered);
-    signature_number(answer, k)
+    let lift = side_at(lift_memory, lift_async);
+    let lower = side_at(lower_memory, lower_async);
+    signature_number(
+        async_return_signature(table, rows, lift, lifted, lower, lowered),
+        k,
+    )
 }
 
 // Refuses TooLong for either list, then BadRow for the table, then the first bad reference of the parameters, then of the results.
 #[unsafe(no_mangle)]
+#[tactic(auto, using(crate::proofs::Short::functype_answers_short))]
 pub extern "C" fn lampughjata_functype(
     memory: u32,
     async_: u32,
@@ -114,8 +124,8 @@ pub extern "C" fn lampughjata_functype(
 {
     let context = context_at(lower);
     let side = side_at(memory, async_);
-    let called_back = is_set(callback);
-    let answer = flatten_functype(context, side, called_back, table, rows, params, results);
+    // A callback is 0 for none, any other number for one.
+    let answer = flatten_functype(context, side, callback != 0, table, rows, params, results);
     signature_number(answer, k)
 }
 

@@ -7,13 +7,14 @@ ghost use Rattle.words.specs.Words.{whole_words, put_words};
 ghost use Rattle.host.specs.Bytes.{PlacesBytes};
 ghost use Rattle.host.specs.Numbers.{memory_at, answer_number, chosen, type_words, layout_number, placement_call};
 
+use crate::lent::decoded;
 use crate::packing::refused;
-use crate::pick::{PICKED_WORDS, SHORT_LIST, SLOTS, TABLE_BYTES, no_rows, pick_row, pick_rows};
+use crate::pick::{LentRows, PICKED_WORDS, SHORT_LIST, SLOTS, TABLE_BYTES};
 use crate::tables::{lampughjata_placement, lampughjata_size_align, lampughjata_type};
 use questions::MOST_REFERENCES;
 use table::{ROW_WORDS, TABLE_WORDS};
 use types::Refusal;
-use words::{put_words, words_of};
+use words::put_words;
 
 // A list of at most so many references is decoded into smaller arrays: an array is cleared first, and the larger ones take longer than the list.
 const MEDIUM_LIST: usize = 1024;
@@ -25,11 +26,11 @@ const LONG_LIST: usize = MOST_REFERENCES + 1;
 pub extern "C" fn lampughjata_type_bytes(table: &[u8], rows: u32, reference: u32, k: u32) -> u64
     ensures { result ≡ answer_number (λ i. chosen k (type_words i)) (type_answer (whole_words table.now) rows reference) }
 {
-    if no_rows(table, rows) {
+    let Some(lent) = LentRows::of(table, rows) else {
         return refused(Refusal::BadRow, 0);
-    }
+    };
     let mut picked = [0u32; ROW_WORDS];
-    let name = pick_row(table, rows, reference, &mut picked, 0);
+    let name = lent.pick_row(reference, &mut picked, 0);
     lampughjata_type(&picked, 1, name, k)
 }
 
@@ -42,11 +43,11 @@ pub extern "C" fn lampughjata_size_align_bytes(
 ) -> u64
     ensures { result ≡ answer_number layout_number (size_align_answer (memory_at memory) (whole_words table.now) rows reference) }
 {
-    if no_rows(table, rows) {
+    let Some(lent) = LentRows::of(table, rows) else {
         return refused(Refusal::BadRow, 0);
-    }
+    };
     let mut picked = [0u32; ROW_WORDS];
-    let name = pick_row(table, rows, reference, &mut picked, 0);
+    let name = lent.pick_row(reference, &mut picked, 0);
     lampughjata_size_align(memory, &picked, 1, name)
 }
 
@@ -72,72 +73,31 @@ fn place_into(
     answer
 }
 
-// Decodes into three arrays of one length, which have a word for each reference or one more than a list may have: no offset and no gap stands beyond.
-fn place_decoded(
+// Decodes into arrays of N words, one for each reference or one more than a list may have: no offset and no gap stands beyond.
+fn place_decoded<const N: usize>(
     memory: u32,
     table: &[u8],
     rows: u32,
     references: &[u8],
     offsets: &mut [u8],
     gaps: &mut [u8],
-    rs: &mut [u32],
-    os: &mut [u32],
-    gs: &mut [u32],
 ) -> u64
-    requires { (min 16385 (length references.now / 4) ≤ length rs.old) × (length os.old ≡ length rs.old) × (length gs.old ≡ length rs.old) }
+    requires { (min 16385 (length references.now / 4) ≤ N) × (N ≤ 16385) }
     ensures { PlacesBytes (memory_at memory) table.now rows references.now offsets.old gaps.old result offsets.new gaps.new }
 {
     let mut ts = [0u32; TABLE_WORDS];
-    let room = words_of(table, &mut ts);
-    let count = words_of(references, rs);
-    let offset_room = words_of(offsets, os);
-    let gap_room = words_of(gaps, gs);
+    let mut rs = [0u32; N];
+    let mut os = [0u32; N];
+    let mut gs = [0u32; N];
     place_into(
         memory,
-        &ts[..room],
+        decoded(table, &mut ts),
         rows,
-        &rs[..count],
-        &mut os[..offset_room],
-        &mut gs[..gap_room],
+        decoded(references, &mut rs),
+        decoded(offsets, &mut os),
+        decoded(gaps, &mut gs),
         offsets,
         gaps,
-    )
-}
-
-fn place_medium(
-    memory: u32,
-    table: &[u8],
-    rows: u32,
-    references: &[u8],
-    offsets: &mut [u8],
-    gaps: &mut [u8],
-) -> u64
-    requires { length references.now / 4 ≤ 1024 }
-    ensures { PlacesBytes (memory_at memory) table.now rows references.now offsets.old gaps.old result offsets.new gaps.new }
-{
-    let mut rs = [0u32; MEDIUM_LIST];
-    let mut os = [0u32; MEDIUM_LIST];
-    let mut gs = [0u32; MEDIUM_LIST];
-    place_decoded(
-        memory, table, rows, references, offsets, gaps, &mut rs, &mut os, &mut gs,
-    )
-}
-
-fn place_long(
-    memory: u32,
-    table: &[u8],
-    rows: u32,
-    references: &[u8],
-    offsets: &mut [u8],
-    gaps: &mut [u8],
-) -> u64
-    ensures { PlacesBytes (memory_at memory) table.now rows references.now offsets.old gaps.old result offsets.new gaps.new }
-{
-    let mut rs = [0u32; LONG_LIST];
-    let mut os = [0u32; LONG_LIST];
-    let mut gs = [0u32; LONG_LIST];
-    place_decoded(
-        memory, table, rows, references, offsets, gaps, &mut rs, &mut os, &mut gs,
     )
 }
 
@@ -153,23 +113,21 @@ fn place_picked(
     requires { length references.now / 4 ≤ 16 }
     ensures { PlacesBytes (memory_at memory) table.now rows references.now offsets.old gaps.old result offsets.new gaps.new }
 {
-    if no_rows(table, rows) {
+    let Some(lent) = LentRows::of(table, rows) else {
         return refused(Refusal::BadRow, 0);
-    }
+    };
     let mut picked = [0u32; PICKED_WORDS];
     let mut rs = [0u32; SHORT_LIST];
-    let count = pick_rows(table, rows, references, &mut picked, 0, &mut rs);
     let mut os = [0u32; SHORT_LIST];
-    let offset_room = words_of(offsets, &mut os);
     let mut gs = [0u32; SHORT_LIST];
-    let gap_room = words_of(gaps, &mut gs);
+    let names = lent.pick_rows(references, &mut picked, 0, &mut rs);
     place_into(
         memory,
         &picked,
         SLOTS,
-        &rs[..count],
-        &mut os[..offset_room],
-        &mut gs[..gap_room],
+        names,
+        decoded(offsets, &mut os),
+        decoded(gaps, &mut gs),
         offsets,
         gaps,
     )
@@ -204,7 +162,7 @@ pub extern "C" fn lampughjata_placement_bytes(
         return place_picked(memory, table, rows, references, offsets, gaps);
     }
     if count <= MEDIUM_LIST {
-        return place_medium(memory, table, rows, references, offsets, gaps);
+        return place_decoded::<MEDIUM_LIST>(memory, table, rows, references, offsets, gaps);
     }
-    place_long(memory, table, rows, references, offsets, gaps)
+    place_decoded::<LONG_LIST>(memory, table, rows, references, offsets, gaps)
 }

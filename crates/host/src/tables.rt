@@ -41,6 +41,7 @@ pub extern "C" fn lampughjata_size_align(
 
 // Refuses TooLong, then BadRow for the table, then NoRoom for either buffer, then the first bad reference, then TooLarge in its memory.
 #[unsafe(no_mangle)]
+#[tactic(auto, using(crate::proofs::Short::placement_short, canon::proofs::Costs::placement_few, crate::proofs::Short::after_short))]
 pub extern "C" fn lampughjata_placement(
     memory: u32,
     table: &[u32],

@@ -9,7 +9,7 @@ use borrow.Author.Tests.{lt-ltb, le-ltb, eq-eqb, ne_eqb}
 use lib.ListN.{length, get_or, take, drop, length-map}
 use lib.Seq.{take-suc, take_all, length-take-le}
 use Rattle.build.specs.Means.{accepted}
-use Rattle.build.proofs.Accepted.{accepted_types}
+use Rattle.build.proofs.Accepts.{accepted_types}
 use Rattle.canon.specs.Answer.{Answer, refused}
 use Rattle.canon.specs.Description.{build, built, build_answer, table_after}
 use Rattle.canon.specs.Row.{row_of}
@@ -21,7 +21,7 @@ use Rattle.table.specs.Rows.{row_in}
 use Rattle.table.proofs.Reading.{row_there}
 use Rattle.words.specs.Words.{whole_words}
 use Rattle.words.proofs.Laws.{length_whole, front_read}
-use Rattle.listing.specs.Text.{row_line, row_lines, end_line, told, described, printed, most_bytes, shown}
+use Rattle.listing.specs.Text.{row_line, row_lines, end_line, told, described, printed}
 use Rattle.listing.specs.Told.{table_lines}
 
 lines_snoc : (i : ℕ) (rs : List (List ℕ)) (r : List ℕ) → row_lines i rs ++ row_line (i + length rs) r ≡ row_lines i (rs ++ r ∷ [])
@@ -98,11 +98,3 @@ module _ (b : List ℕ) where
   unfolding printed
   printed_words w u n l h z e f =
       rw (le-ltb 65536 (length b) h, eq-eqb (length b % 4) 0 (omega arith)) (ap described (front_read b w u n e f ∙ take_all (length w) (whole_words b) (omega (arith, length_whole b))))
-
-  pub shown_none : (room : ℕ) → room < most_bytes → [] ≡ shown room b
-  unfolding shown
-  shown_none room h = rw (lt-ltb room most_bytes h)
-
-  pub shown_all : (room : ℕ) → most_bytes ≤ room → printed b ≡ shown room b
-  unfolding shown
-  shown_all room h = rw (le-ltb room most_bytes h)

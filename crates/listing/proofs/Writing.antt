@@ -1,66 +1,52 @@
 -- Texts written one after another are one text.
-use mathlib.Core.Path.{◌≡◌, refl, sym, ap, ◌∙◌}
-use mathlib.Core.List.{List, [], ◌∷◌, ◌++◌, append_assoc, append-nil}
-use Prim.Native.Nat.{ℕ, zero, suc, ◌+◌, ◌/◌, ◌%◌, ◌≤◌, ◌<◌}
-use native.Mathlib.Nat.{add-zero}
-use native.Mathlib.Numerals.{add-one}
-use native.Mathlib.Omega.{arith}
-use borrow.Author.Tests.{lt-ltb, le-ltb, eq-eqb, ne_eqb}
-use lib.ListN.{length, get_or, take, set, length-append, length-set}
-use lib.Seq.{take-suc}
-use Rattle.listing.specs.Text.{digits, decimal, spaced, spaced_all, flat_text, written}
-use Rattle.listing.specs.Told.{Puts}
+use Rattle.std.proofs.Common.{◌≡◌, ℕ, suc, ◌+◌, ◌^◌, ◌≤◌, ◌<◌, List, [], ◌∷◌, ◌++◌, length, get_or, set, take, drop, refl, sym, ap, ◌∙◌, arith, le_refl, add-one, add-zero, append_assoc, append-nil, take_all}
+use Rattle.std.proofs.Math.Seq.{sets, length-sets, take-suc}
+pub use Rattle.std.proofs.lemmas.Grind.{common_steps}
+use Rattle.std.proofs.lemmas.Fmt.{AppendsLastDigit, decimal_from_appends, length-decimal-le}
+use Rattle.std.proofs.lemmas.List.Edits.{sets-eq}
+use Rattle.std.proofs.lemmas.Slice.{put_mid-paste}
+use Rattle.std.specs.Fmt as fmt
+use borrow.Author.Tests.{lt-ltb, le-ltb}
+use borrow.Rule.Slice.PartMut.{put_mid}
+use Rattle.listing.specs.Text.{digits, decimal, spaced, spaced_all, written}
+
+-- a run of stores is what the library calls `sets`
+written_sets : (bs out : List ℕ) (at : ℕ) → written out at bs ≡ sets out at bs
+unfolding written
+written_sets [] out at = refl
+written_sets (b ∷ bs) out at = written_sets bs (set out at b) (suc at)
 
 pub length_written : (bs out : List ℕ) (at : ℕ) → length (written out at bs) ≡ length out
-unfolding written
-length_written [] out at = refl
-length_written (b ∷ bs) out at = length_written bs (set out at b) (suc at) ∙ length-set out at b
+length_written bs out at = rw (written_sets bs out at) (length-sets out at bs)
 
-written_more : (xs ys out : List ℕ) (at : ℕ) → written (written out at xs) (at + length xs) ys ≡ written out at (xs ++ ys)
+-- a copy into the middle writes the text
+pub copied :
+    (out part text : List ℕ) (at k : ℕ) → part ≡ text → k ≡ length text → at + length text ≤ length out →
+    put_mid at k out part ≡ written out at text
+copied out part text at k e f fits =
+    put_mid-paste at k out part text (length text) e (sym f) refl
+    ∙ ap (λ (l : List ℕ). take at out ++ l ++ drop (at + length text) out) (take_all (length text) text (le_refl _))
+    ∙ sym (sets-eq text out at fits) ∙ sym (written_sets text out at)
+
+pub written_more : (xs ys out : List ℕ) (at : ℕ) → written (written out at xs) (at + length xs) ys ≡ written out at (xs ++ ys)
 unfolding written
 written_more [] ys out at = rw (add-zero at)
 written_more (x ∷ xs) ys out at =
     let e : at + suc (length xs) ≡ suc at + length xs = omega arith in
     rw e (written_more xs ys (set out at x) (suc at))
 
-pub puts_none : (out : List ℕ) (at : ℕ) → Puts out at [] 0 at out
-unfolding written
-puts_none out at = record { place = sym (add-zero at); inside = omega arith; bytes = refl }
-
-pub puts_one : (out : List ℕ) (at b : ℕ) → Puts out at (b ∷ []) 1 (at + 1) (set out at b)
-unfolding written
-puts_one out at b = record { place = refl; inside = omega arith; bytes = refl }
-
-pub puts_then : {out mid last xs ys : List ℕ} {at p r m n : ℕ} → Puts out at xs m p mid → Puts mid p ys n r last → Puts out at (xs ++ ys) (m + n) r last
-puts_then {out} {mid} {last} {xs} {ys} {at} {p} {r} {m} {n} a b =
-    record {
-      place = omega (arith, a.place, b.place, length-append xs ys);
-      inside = omega (arith, a.inside, b.inside);
-      bytes = b.bytes ∙ rw (a.bytes, a.place) (written_more xs ys out at);
-    }
-
--- the same text, with a wider bound
-pub puts_as : {out last xs ys : List ℕ} {at r m n : ℕ} → xs ≡ ys → m ≤ n → Puts out at xs m r last → Puts out at ys n r last
-puts_as {out} {last} {xs} {ys} {at} {r} {m} {n} e h a =
-    record { place = a.place ∙ rw e; inside = omega (arith, a.inside); bytes = a.bytes ∙ rw e }
-
-pub puts_length : {out last xs : List ℕ} {at r m : ℕ} → Puts out at xs m r last → length last ≡ length out
-puts_length {out} {last} {xs} {at} a = ap length a.bytes ∙ length_written xs out at
+-- one text after another, for `grind`
+pub ruleset texts = (written_more, common_steps)
 
 -- Digits
 
-pub digits_none : {most : ℕ} (n : ℕ) → most ≡ 0 → [] ≡ digits most n
+appends_last : AppendsLastDigit digits
 unfolding digits
-digits_none n e = rw e
+appends_last = record { one = λ k n h. rw (lt-ltb n 10 h); more = λ k n h. rw (le-ltb n 10 h) }
 
-pub digits_one : (most n : ℕ) → (most ≡ 0 → ⊥) → n < 10 → (48 + n) ∷ [] ≡ digits most n
-unfolding digits
-digits_one zero n z h = absurd (z refl)
-digits_one (suc k) n z h = rw (lt-ltb n 10 h)
-
-pub digits_more : (most less n : ℕ) → most ≡ suc less → 10 ≤ n → digits less (n / 10) ++ (48 + n % 10) ∷ [] ≡ digits most n
-unfolding digits
-digits_more most less n e h = rw (e, le-ltb n 10 h)
+-- the library prints a word as these digits
+pub decimal_is : (n : ℕ) → n < 2 ^ 32 → fmt.decimal n ≡ decimal n
+decimal_is n h = sym (decimal_from_appends digits appends_last 10 n (omega arith) (length-decimal-le 10 n (omega arith) (omega arith) (omega arith)))
 
 -- Numbers, one after another
 
@@ -71,16 +57,3 @@ spaced_snoc (m ∷ ns) n = append_assoc (spaced m) (spaced_all ns) (spaced n) �
 
 pub spaced_turn : (ns : List ℕ) (k : ℕ) → k < length ns → spaced_all (take k ns) ++ spaced (get_or ns k 0) ≡ spaced_all (take (k + 1) ns)
 spaced_turn ns k h = spaced_snoc (take k ns) (get_or ns k 0) ∙ ap spaced_all (rw (add-one k) (sym (take-suc ns k 0 h)))
-
-pub bytes_turn : (bs : List ℕ) (k : ℕ) → k < length bs → take k bs ++ get_or bs k 0 ∷ [] ≡ take (k + 1) bs
-bytes_turn bs k h = rw (add-one k) (sym (take-suc bs k 0 h))
-
--- The flat count
-
-pub flat_none : {n : ℕ} → n ≡ 255 → 45 ∷ [] ≡ flat_text n
-unfolding flat_text
-flat_none {n} e = rw (eq-eqb n 255 e)
-
-pub flat_some : {n : ℕ} → (n ≡ 255 → ⊥) → decimal n ≡ flat_text n
-unfolding flat_text
-flat_some {n} h = rw (ne_eqb n 255 h)

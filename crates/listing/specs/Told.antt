@@ -2,12 +2,19 @@
 use Rattle.std.specs.Prelude.{List, [], ◌++◌, ◌≡◌, ℕ, zero, suc, ◌+◌, ◌≤◌, length}
 use Rattle.table.specs.Rows.{row_in}
 use Rattle.listing.specs.Text.{row_line, written}
+use Rattle.listing.specs.declared.numbers.Output.{Output}
 
--- a text of at most so many bytes is written from a place on; r is the place after it
-pub record Puts (out : List ℕ) (at : ℕ) (text : List ℕ) (most r : ℕ) (after : List ℕ) : Type 0 where
-  pub place : r ≡ at + length text
-  pub inside : r ≤ at + most
-  pub bytes : after ≡ written out at text
+-- so many more bytes fit
+abbrev pub HasRoom : Output → ℕ → Type 0
+HasRoom o n = o.len + n ≤ length o.bytes.now
+
+-- a text of at most so many bytes is written, in the same lent bytes, after what was there
+pub record Adds (old new : Output) (text : List ℕ) (most : ℕ) : Type 0 where
+  pub same : new.bytes.ghost_name ≡ old.bytes.ghost_name
+  pub bytes : new.bytes.now ≡ written old.bytes.now old.len text
+  pub len : new.len ≡ old.len + length text
+  pub size : length new.bytes.now ≡ length old.bytes.now
+  pub short : length text ≤ most
 
 -- the lines of the first n rows of a table
 unfoldable pub table_lines : List ℕ → ℕ → List ℕ

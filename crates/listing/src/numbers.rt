@@ -1,60 +1,59 @@
-// Writes bytes and decimal numbers into lent bytes from a place on; each call answers the place after what it wrote.
-ghost use Rattle.std.specs.Prelude.{[], ◌∷◌, ◌≡◌, ◌+◌, ◌≤◌, length};
-ghost use Rattle.listing.specs.Text.{digits, spaced};
-ghost use Rattle.listing.specs.Told.{Puts};
+// Lent bytes that are written from the front on: bytes and decimal numbers, each after what is there.
+ghost use Rattle.std.specs.Prelude.{◌≡◌, length};
+ghost use Rattle.listing.specs.Text.{decimal, spaced};
+ghost use Rattle.listing.specs.Told.{Adds, HasRoom};
+
+use itoa::Buffer;
 
 // A word has no more decimal digits.
 pub(crate) const MOST_DIGITS: usize = 10;
 
-fn digit(x: u32) -> u8
-    requires { x ≤ 9 }
-    ensures { result ≡ 48 + x }
-{
-    48 + x as u8
+// The first `len` of the bytes are written. Not a `fmt::Write`: no clause of `write!` rules out an `Err`, and `report` answers none.
+#[derive(Drop)]
+pub(crate) struct Output<'a> {
+    bytes: &'a mut [u8],
+    len: usize,
 }
 
-pub(crate) fn put_byte(out: &mut [u8], at: usize, byte: u8) -> usize
-    requires { at + 1 ≤ length out.old }
-    ensures { Puts out.old at (byte ∷ []) 1 result out.new }
-{
-    out[at] = byte;
-    at + 1
-}
-
-pub(crate) fn put_bytes(out: &mut [u8], at: usize, bytes: &[u8]) -> usize
-    requires { at + length bytes.now ≤ length out.old }
-    ensures { Puts out.old at bytes.now (length bytes.now) result out.new }
-{
-    let mut end = at;
-    let mut k: usize = 0;
-    while k < bytes.len() {
-        end = put_byte(out, end, bytes[k]);
-        k += 1;
+impl<'a> Output<'a> {
+    pub(crate) fn new(bytes: &'a mut [u8]) -> Output<'a>
+        ensures same { result.bytes.ghost_name ≡ bytes.entry.ghost_name }
+        ensures bytes { result.bytes.now ≡ bytes.old }
+        ensures len { result.len ≡ 0 }
+    {
+        Output { bytes, len: 0 }
     }
-    end
-}
 
-// Writes at most `most` decimal digits of n.
-pub(crate) fn put_digits(out: &mut [u8], at: usize, n: u32, most: usize) -> usize
-    requires { at + most ≤ length out.old }
-    ensures { Puts out.old at (digits most n) most result out.new }
-{
-    if most == 0 {
-        return at;
+    pub(crate) fn len(&self) -> usize
+        ensures { result ≡ self.now.len }
+    {
+        self.len
     }
-    if n < 10 {
-        out[at] = digit(n);
-        return at + 1;
-    }
-    let end = put_digits(out, at, n / 10, most - 1);
-    out[end] = digit(n % 10);
-    end + 1
-}
 
-pub(crate) fn put_spaced(out: &mut [u8], at: usize, n: u32) -> usize
-    requires { at + 11 ≤ length out.old }
-    ensures { Puts out.old at (spaced n) 11 result out.new }
-{
-    let end = put_digits(out, at, n, MOST_DIGITS);
-    put_byte(out, end, b' ')
+    #[tactic(auto, using(crate::proofs::Writing::copied, crate::proofs::Writing::length_written))]
+    pub(crate) fn put(&mut self, text: &[u8])
+        requires { HasRoom self.old (length text.now) }
+        ensures { Adds self.old self.new text.now (length text.now) }
+    {
+        let end = self.len + text.len();
+        self.bytes[self.len..end].copy_from_slice(text);
+        self.len = end;
+    }
+
+    #[tactic(auto, using(crate::proofs::Writing::decimal_is))]
+    pub(crate) fn put_decimal(&mut self, n: u32)
+        requires { HasRoom self.old 10 }
+        ensures { Adds self.old self.new (decimal n) 10 }
+    {
+        self.put(Buffer::new().format(n).as_bytes());
+    }
+
+    #[tactic(auto, using(crate::proofs::Writing::texts), unfolding(crate::specs::Text::spaced))]
+    pub(crate) fn put_spaced(&mut self, n: u32)
+        requires { HasRoom self.old 11 }
+        ensures { Adds self.old self.new (spaced n) 11 }
+    {
+        self.put_decimal(n);
+        self.put(b" ");
+    }
 }

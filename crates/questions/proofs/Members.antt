@@ -4,20 +4,19 @@ use mathlib.Core.Bool.{Bool, true, false, cond, ◌||◌, or-true}
 use mathlib.Core.List.{List, [], ◌∷◌, ◌++◌, map-append}
 use mathlib.Core.Option.{Option, none, some}
 use Prim.Native.Nat.{ℕ, suc, ◌+◌, ◌-◌, ◌%◌, ◌≤◌, ◌<◌, max, min}
-use native.Mathlib.Nat.{add-zero, zero-add, mod-eq_of_lt, mod-lt}
+use native.Mathlib.Nat.{add-zero, zero-add, mod-eq_of_lt}
 use native.Mathlib.Numerals.{add-one}
 use native.Mathlib.Decide.{dec_le}
 use native.Mathlib.Omega.{arith}
 use lib.Dec.{ltb}
-use lib.ListN.{length, take, drop, set, length-append}
+use lib.ListN.{length, take, set, length-append}
 use lib.Seq.{take-suc-set}
 use borrow.Author.Tests.{lt-ltb, le-ltb}
-use Rattle.canon.specs.Answer.{Answer, ok, refused, then}
+use Rattle.canon.specs.Answer.{ok, then}
 use Rattle.canon.specs.Layout.{Memory, within, Layout, round_up, starts, last_end, greatest_align, record_size, largest_number}
 use Rattle.canon.specs.Row.{Info}
-use Rattle.canon.specs.Question.{first_over, or_size, refused_at, Placing, judged, placed, layouts_in, buffer_after}
+use Rattle.canon.specs.Question.{first_over, or_size, refused_at, Placing, judged, placed, layouts_in}
 use Rattle.canon.specs.Gaps.{skipped_to, gaps, gap_after, Padded, padded, offsets_of, gaps_of}
-use Rattle.canon.proofs.Tests.{impossible}
 use Rattle.canon.proofs.Rounding.{Alignment, le_round_up, alignment_pos}
 use Rattle.canon.proofs.Tightest.{Aligned, le_record_size, greatest_align_alignment}
 use Rattle.canon.proofs.Wider.{starts_append}
@@ -28,24 +27,9 @@ use Rattle.types.specs.Extents.{extent_at, member_of, closing, is_large}
 use Rattle.types.specs.declared.extent.Extent.{Extent}
 use Rattle.types.specs.declared.extent.Step.{Step}
 use Rattle.types.proofs.ExtentLaws.{reach_is, reach_large, step_reach, member_reach_lem, closing_reach}
-use Rattle.questions.specs.Means.{pair_of, half_of, halves}
-use Rattle.questions.specs.Steps.{start_place, next_place, finished, finished_gap, layout_part, after_part}
-use Rattle.questions.specs.declared.pair.Half.{Half}
-use Rattle.questions.specs.declared.pair.Half.TheVariants.{Low, High}
+use Rattle.questions.specs.Steps.{start_place, next_place, finished, finished_gap, layout_part, after_part, staged_offsets, staged_gaps}
 use Rattle.questions.specs.declared.placed.Placed.{Placed}
-use Rattle.questions.proofs.Memos.{pair_back}
-
--- an answer comes of a placement, and a refusal writes nothing
-
-pub answered : (a : Answer Padded) (f : Layout) → ok f ≡ layout_part a → (q : Padded) × (a ≡ ok q)
-unfolding then
-answered (ok q) f e = (q, refl)
-answered (refused x p) f e = impossible (cc)
-
-pub untouched : (words : Padded → List ℕ) (a : Answer Padded) (x p : ℕ) (out : List ℕ) → refused x p ≡ layout_part a → out ≡ buffer_after words a out
-unfolding then buffer_after
-untouched words (ok q) x p out e = impossible (cc)
-untouched words (refused y q) x p out e = refl
+use Rattle.questions.specs.declared.placing.Staged as code
 
 -- One member more at the end
 
@@ -196,24 +180,20 @@ module _ (p : Placed) (fs : List Layout) (k : ℕ) (s : Stands p fs k) where
           rw (gaps_append 0 fs (f ∷ []), so_far.1, gap_at g),
         )
 
-    -- in pairs
-
-    abbrev word : ℕ
-    word = pair_of q.offset q.gap
-
-    cut : q.offset < four_gib
-    unfolding next_place
-    cut = rw (ap (λ (x : Placed). x.offset) e) (mod-lt _ (omega arith))
-
-    last_half : (half : Half) (stage : List ℕ) → k < length stage → halves half (take (k + 1) (set stage k word)) ≡ halves half (take k stage) ++ half_of half word ∷ []
-    last_half half stage l = rw (add-one k, take-suc-set stage k word l) (map-append (half_of half) (take k stage) (word ∷ []))
+    abbrev last : code.Staged
+    last = record { offset = q.offset; gap = q.gap }
 
     pub staged_more :
-        (stage : List ℕ) → Staged (halves Low (take k stage)) (halves High (take k stage)) fs → k < length stage →
-        Staged (halves Low (take (k + 1) (set stage k word))) (halves High (take (k + 1) (set stage k word))) more
+        (stage : List code.Staged) → Staged (staged_offsets (take k stage)) (staged_gaps (take k stage)) fs → k < length stage →
+        Staged (staged_offsets (take (k + 1) (set stage k last))) (staged_gaps (take (k + 1) (set stage k last))) more
     staged_more stage t l =
-        let back = pair_back q.offset q.gap cut in
-        rw (last_half Low stage l, last_half High stage l, back.0, back.1) (staged_last (halves Low (take k stage)) (halves High (take k stage)) t)
+        rw (
+          add-one k,
+          take-suc-set stage k last l,
+          map-append (λ (s : code.Staged). s.offset) (take k stage) (last ∷ []),
+          map-append (λ (s : code.Staged). s.gap) (take k stage) (last ∷ []),
+        )
+        (staged_last (staged_offsets (take k stage)) (staged_gaps (take k stage)) t)
 
   -- Closed, it is canon's answer
 
@@ -242,10 +222,3 @@ module _ (p : Placed) (fs : List Layout) (k : ℕ) (s : Stands p fs k) where
         ap (λ (y : Padded). y.before) (padded_is fs q e),
         omega (arith, r.1, le_record_size fs s.aligned),
       )
-
--- what was put in front of a buffer is what an accepted placement leaves there
-pub written :
-    (words : Padded → List ℕ) (a : Answer Padded) (q : Padded) (os out after : List ℕ) (n : ℕ) →
-    a ≡ ok q → words q ≡ os → length os ≡ n → after ≡ os ++ drop n out → after ≡ buffer_after words a out
-unfolding buffer_after
-written words a q os out after n e f l w = rw (e, f, l) w

@@ -1,7 +1,7 @@
 -- Positions in a list, and in one that comes behind another.
 use mathlib.Core.Path.{◌≡◌, refl, ap, ◌∙◌}
 use mathlib.Core.List.{List, [], ◌∷◌}
-use Prim.Native.Nat.{ℕ, suc, ◌+◌, ◌<◌}
+use Prim.Native.Nat.{ℕ, suc, ◌+◌}
 use native.Mathlib.Nat.{add-zero}
 use native.Mathlib.Omega.{arith}
 use lib.ListN.{length}
@@ -9,32 +9,8 @@ use Rattle.canon.specs.Answer.{Leaf, is, no, Answer, ok, refused, at_position, t
 use Rattle.canon.specs.Layout.{Memory}
 use Rattle.canon.specs.Row.{Info}
 use Rattle.canon.specs.Question.{read, infos}
-use Rattle.canon.proofs.Tests.{impossible}
 use Rattle.questions.specs.Gathers.{together, together_refs, together_two}
 use Rattle.questions.specs.Steps.{two_refs}
-
--- a refusal names a place in the list
-
-infos_below : (look : ℕ → Leaf Info) (p : ℕ) (ws : List ℕ) (x q : ℕ) → refused x q ≡ infos look p ws → q < p + length ws
-unfolding infos then at_position
-infos_below look p [] x q e = impossible (cc)
-infos_below look p (w ∷ ws) x q e = go (look w) (infos_below look (suc p) ws x q) e
-  where
-    rest : (i : Info) (a : Answer (List Info)) → (refused x q ≡ a → q < suc p + length ws) → refused x q ≡ then a (λ is'. ok (i ∷ is')) → q < p + suc (length ws)
-    rest i (ok is') f e = impossible (cc)
-    rest i (refused y r) f e = omega (arith, f e)
-
-    go : (l : Leaf Info) → (refused x q ≡ infos look (suc p) ws → q < suc p + length ws) → refused x q ≡ then (at_position p l) (λ i. then (infos look (suc p) ws) (λ is'. ok (i ∷ is'))) → q < p + suc (length ws)
-    go (is i) f e = rest i (infos look (suc p) ws) f e
-    go (no y) f e = let g : q ≡ p = cc in omega arith
-
-pub together_below : (m : Memory) (t : List ℕ) (n : ℕ) (ws : List ℕ) (x q : ℕ) → refused x q ≡ together_refs m t n ws → q < length ws
-unfolding then
-together_below m t n ws x q e = go (infos (read t n) 0 ws) refl e
-  where
-    go : (a : Answer (List Info)) → a ≡ infos (read t n) 0 ws → refused x q ≡ then a (λ is'. ok (together m is')) → q < length ws
-    go (ok is') f e = impossible (cc)
-    go (refused y r) f e = let g : refused x q ≡ infos (read t n) 0 ws = cc in omega (arith, infos_below (read t n) 0 ws x q g)
 
 -- positions that count on from a list before
 
@@ -58,13 +34,17 @@ infos_moved look p q (w ∷ ws) = go (look w) (ap (λ (k : ℕ). infos look k ws
     go (is i) h = rw h (tail i (infos look (suc q) ws))
     go (no x) h = refl
 
+-- so a list behind p others is read as by itself
+pub infos_from : (look : ℕ → Leaf Info) (p : ℕ) (ws : List ℕ) → infos look p ws ≡ moved p (infos look 0 ws)
+infos_from look p ws = rw (add-zero p) at (infos_moved look p 0 ws)
+
 pub two_gathered :
     (t : List ℕ) (n : ℕ) (a b : Memory) (vs ws : List ℕ) →
     two_refs t n a vs b ws
     ≡ then (together_refs a t n vs) (λ x. then (moved (length vs) (together_refs b t n ws)) (λ y. ok (record { first = x; second = y })))
 unfolding then
 two_gathered t n a b vs ws =
-    let shifted = rw (add-zero (length vs)) at (infos_moved (read t n) (length vs) 0 ws) in
+    let shifted = infos_from (read t n) (length vs) ws in
     rw shifted (go (infos (read t n) 0 vs) (infos (read t n) 0 ws))
   where
     go :

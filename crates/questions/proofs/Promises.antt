@@ -13,6 +13,7 @@ use lib.Dec.{ltb}
 use borrow.Author.Tests.{le-ltb}
 use denote.Ref.{Bor, MutBor, at_last}
 use contract.Lifetimes.{Lfts}
+use Rattle.std.specs.Prelude.{Result, Ok, Err}
 use Rattle.canon.specs.Answer.{Answer, ok, refused, then, unless, too_large}
 use Rattle.canon.specs.Types.{Ty}
 use Rattle.canon.specs.Layout as canon
@@ -32,20 +33,20 @@ use Rattle.canon.proofs.Gaps.{gaps_length, gaps_below, gap_next, gaps_total, aft
 use Rattle.canon.proofs.Questions.{then_refused, Reads, infos_aligned, infos_length, placing_reads, placing_starts, placing_six, placing_tightest, Names, type_built, ask_built, layouts_typed, flat_types, flats_typed}
 use Rattle.canon.proofs.Questions.{borrow_types, borrows_typed, offsets_length, offsets_written, offsets_begin, Beside, beside_accepted, beside_refused, placing_beside}
 use Rattle.types.specs.Means.{number_of, memory_of, layout_means}
+use Rattle.types.specs.declared.extent.Layout.{Layout}
 use Rattle.types.specs.declared.refusal.Refusal.{Refusal}
 use Rattle.types.specs.declared.refusal.Refusal.TheVariants.{TooLarge}
 use Rattle.types.specs.declared.memory.Memory.{Memory}
 use Rattle.types.specs.declared.memory.Memory.TheVariants.{Memory32, Memory64}
 use Rattle.flat_types.specs.Lists.{packed}
+use Rattle.table.specs.Means.{answer, member_place}
 use Rattle.table.specs.declared.info.MemberPosition.{MemberPosition}
-use Rattle.questions.specs.Means.{type_means, layout_answer_means, placement_means, whole_reads, after_means, gathered_means}
+use Rattle.table.specs.declared.refused.Refused.{Refused}
+use Rattle.questions.specs.Means.{type_info_means, whole_means, whole_reads, after_means, gathering_means}
 use Rattle.questions.specs.Gathers.{together, gather_answer}
-use Rattle.questions.specs.declared.answer.TypeAnswer.{TypeAnswer}
-use Rattle.questions.specs.declared.answer.LayoutAnswer.{LayoutAnswer}
+use Rattle.questions.specs.declared.answer.TypeInfo.{TypeInfo}
 use Rattle.questions.specs.declared.answer.Whole.{Whole}
-use Rattle.questions.specs.declared.answer.PlacementAnswer.{PlacementAnswer}
-use Rattle.questions.specs.declared.answer.PlacementAnswer.TheVariants as answer
-use Rattle.questions.specs.declared.list.Gathered.{Gathered}
+use Rattle.questions.specs.declared.list.Gathering.{Gathering}
 use Rattle.questions.proofs.Unique.{whole_told, refusal_told}
 use Rattle.questions.proofs.ask.canonical_abi.Reads as canonical-abi
 use Rattle.questions.proofs.member.size_align.Reads as size-align
@@ -80,7 +81,7 @@ module _
     aligned : Aligned fs
     aligned = infos_aligned (memory_of m) t.now n 0 ws.now is' reads.gives
 
-    module _ (w : Whole) (promise : placement.Post κs (m, (t, (n, (ws, (o, (g, tt)))))) (answer.Whole w) (m, (t, (n, (ws, (at_last o l, (at_last g k, tt))))))) where
+    module _ (w : Whole) (promise : placement.Post κs (m, (t, (n, (ws, (o, (g, tt)))))) (Ok w) (m, (t, (n, (ws, (at_last o l, (at_last g k, tt))))))) where
       offsets : (os : List ℕ) × (placing (memory_of m) t.now n ws.now room ≡ ok (record { layout = layout_means w.layout; offsets = os })) × (l ≡ os ++ drop (length os) o.now)
       unfolding placement_answer offsets_after
       offsets = answered (placing (memory_of m) t.now n ws.now room) (layout_means w.layout) o.now l promise.0 promise.1.0
@@ -133,12 +134,12 @@ module _
           rw (written, first, ← ap (λ (p : Placing). p.offsets) canons) (gap_next 0 fs aligned j (omega (arith, h, gaps_length 0 fs, counted)))
 
     pub placement_six :
-        (r : PlacementAnswer) → placement.Post κs (m, (t, (n, (ws, (o, (g, tt)))))) r (m, (t, (n, (ws, (at_last o l, (at_last g k, tt)))))) →
-        ((q : MemberPosition) × (r ≡ answer.Refused TooLarge q)) ↔ NoPlacement fs
+        (r : Result Whole (Refused MemberPosition)) → placement.Post κs (m, (t, (n, (ws, (o, (g, tt)))))) r (m, (t, (n, (ws, (at_last o l, (at_last g k, tt)))))) →
+        ((q : MemberPosition) × (r ≡ Err (record { why = TooLarge; at = q }))) ↔ NoPlacement fs
     unfolding placement_answer then
     placement_six r h =
         let six = placing_six (memory_of m) reads in (
-          λ e. six.0 (e.0.0, then_refused (λ (p : Placing). p.layout) (placing (memory_of m) t.now n ws.now room) too_large e.0.0 (sym h.0 ∙ ap placement_means e.1)),
+          λ e. six.0 (e.0.0, then_refused (λ (p : Placing). p.layout) (placing (memory_of m) t.now n ws.now room) too_large e.0.0 (sym h.0 ∙ ap (answer member_place whole_means) e.1)),
           λ none. let e = six.1 none in
               (record { 0 = e.0 }, refusal_told r TooLarge (record { 0 = e.0 }) (h.0 ∙ rw e.1)),
         )
@@ -148,10 +149,10 @@ module _
 module _ (κs : Lfts 1) (t : Bor (List ℕ)) (n w : ℕ) (ws t₀ : List ℕ) (u : Ty)
     (table : t.now ≡ table_after ws t₀) (rows : n ≤ length (built ws t₀).types) (named : reference (take n (built ws t₀).types) w ≡ some u)
   where
-    pub type_of_lem : (r : TypeAnswer) → canonical-abi.Post κs (t, (n, (w, tt))) r (t, (n, (w, tt))) → type_means r ≡ ok (info_of u)
+    pub type_of_lem : (r : Result TypeInfo (Refused MemberPosition)) → canonical-abi.Post κs (t, (n, (w, tt))) r (t, (n, (w, tt))) → answer member_place type_info_means r ≡ ok (info_of u)
     type_of_lem r h = h ∙ ap (λ (x : List ℕ). type_answer x n w) table ∙ type_built ws t₀ n w u rows named
 
-    pub size_of : (m : Memory) (r : LayoutAnswer) → size-align.Post κs (m, (t, (n, (w, tt)))) r (m, (t, (n, (w, tt)))) → layout_answer_means r ≡ ok (layout (memory_of m) u)
+    pub size_of : (m : Memory) (r : Result Layout (Refused MemberPosition)) → size-align.Post κs (m, (t, (n, (w, tt)))) r (m, (t, (n, (w, tt)))) → answer member_place layout_means r ≡ ok (layout (memory_of m) u)
     unfolding size_align_answer then
     size_of m r h = h ∙ ap (λ (x : List ℕ). size_align_answer (memory_of m) x n w) table ∙ rw (type_built ws t₀ n w u rows named) (go (memory_of m))
       where
@@ -163,8 +164,8 @@ module _ (m : Memory) (t : Bor (List ℕ)) (n : ℕ) (refs : Bor (List ℕ)) (ws
     (table : t.now ≡ table_after ws t₀) (names : Names ws t₀ n refs.now us)
   where
     pub gathered_of_lem :
-        (κs : Lfts 2) (r : Gathered) → gather.Post κs (m, (t, (n, (refs, tt)))) r (m, (t, (n, (refs, tt)))) →
-        gathered_means r ≡ ok (record { flat = packed (flat_types (memory_of m) us); borrow = borrow_types us })
+        (κs : Lfts 2) (r : Result Gathering (Refused MemberPosition)) → gather.Post κs (m, (t, (n, (refs, tt)))) r (m, (t, (n, (refs, tt)))) →
+        answer member_place gathering_means r ≡ ok (record { flat = packed (flat_types (memory_of m) us); borrow = borrow_types us })
     unfolding gather_answer ask unless
     gathered_of_lem κs r h =
         h
@@ -185,14 +186,14 @@ module _ (m : Memory) (t : Bor (List ℕ)) (n : ℕ) (refs : Bor (List ℕ)) (ws
         ∙ padded_placed (map (layout (memory_of m)) us)
 
     -- what is answered and written of the types themselves
-    pub record OfTypes (o g : MutBor (List ℕ)) (r : PlacementAnswer) (l k : List ℕ) : Type 0 where
-      pub whole : placement_means r ≡ layout_only (placed (map (layout (memory_of m)) us))
+    pub record OfTypes (o g : MutBor (List ℕ)) (r : Result Whole (Refused MemberPosition)) (l k : List ℕ) : Type 0 where
+      pub whole : answer member_place whole_means r ≡ layout_only (placed (map (layout (memory_of m)) us))
       pub offsets : l ≡ buffer_after offsets_only (placed (map (layout (memory_of m)) us)) o.now
       pub gaps : k ≡ buffer_after gaps_of (padded (map (layout (memory_of m)) us)) g.now
       pub after : after_means r ≡ then (padded (map (layout (memory_of m)) us)) (λ q. ok q.after)
 
     pub placed_of :
-        (κs : Lfts 4) (o g : MutBor (List ℕ)) (r : PlacementAnswer) (l k : List ℕ) → length refs.now ≤ room_of o.now g.now →
+        (κs : Lfts 4) (o g : MutBor (List ℕ)) (r : Result Whole (Refused MemberPosition)) (l k : List ℕ) → length refs.now ≤ room_of o.now g.now →
         placement.Post κs (m, (t, (n, (refs, (o, (g, tt)))))) r (m, (t, (n, (refs, (at_last o l, (at_last g k, tt)))))) → OfTypes o g r l k
     unfolding placement_answer offsets_after after_answer
     placed_of κs o g r l k fits h =
@@ -206,7 +207,7 @@ module _ (m : Memory) (t : Bor (List ℕ)) (n : ℕ) (refs : Bor (List ℕ)) (ws
 -- One list of references placed in both memories, over a table that a build wrote, both with room for offsets and gaps or neither
 
 module _
-    (κs κs' : Lfts 4) (t refs : Bor (List ℕ)) (o g o' g' : MutBor (List ℕ)) (n : ℕ) (ws t₀ : List ℕ) (r r' : PlacementAnswer) (l k l' k' : List ℕ)
+    (κs κs' : Lfts 4) (t refs : Bor (List ℕ)) (o g o' g' : MutBor (List ℕ)) (n : ℕ) (ws t₀ : List ℕ) (r r' : Result Whole (Refused MemberPosition)) (l k l' k' : List ℕ)
     (table : t.now ≡ table_after ws t₀) (rows : n ≤ length (built ws t₀).types)
     (alike : ltb (room_of o.now g.now) (length refs.now) ≡ ltb (room_of o'.now g'.now) (length refs.now))
     (narrow : placement.Post κs (Memory32, (t, (n, (refs, (o, (g, tt)))))) r (Memory32, (t, (n, (refs, (at_last o l, (at_last g k, tt)))))))
@@ -223,11 +224,11 @@ module _
 
     -- what 64 accepts, 32 accepts: no larger, and no offset later
     pub narrow_accepts :
-        (v : Whole) → r' ≡ answer.Whole v →
-        (u : Whole) × (r ≡ answer.Whole u) × (layout_means u.layout ≼ layout_means v.layout) × NoneLater (take (length refs.now) l) (take (length refs.now) l')
+        (v : Whole) → r' ≡ Ok v →
+        (u : Whole) × (r ≡ Ok u) × (layout_means u.layout ≼ layout_means v.layout) × NoneLater (take (length refs.now) l) (take (length refs.now) l')
     unfolding placement_answer offsets_after then
     narrow_accepts w e =
-        let b = answered (placing mem64 t.now n refs.now wide_room) (layout_means w.layout) o'.now l' (sym (ap placement_means e) ∙ wide.0) wide.1.0 in
+        let b = answered (placing mem64 t.now n refs.now wide_room) (layout_means w.layout) o'.now l' (sym (ap (answer member_place whole_means) e) ∙ wide.0) wide.1.0 in
         let p = beside_accepted beside b.1 in
         let whole = whole_told r p.0.layout (narrow.0 ∙ ap layout_only p.1) in
         let u : take (length refs.now) l ≡ p.0.offsets = ap (take (length refs.now)) narrow.1.0 ∙ offsets_written mem32 t.now n refs.now narrow_room o.now p.0 p.1 in
@@ -235,26 +236,26 @@ module _
         (whole.0, whole.1, rw whole.2 p.2, rw (u, v) p.3)
 
     -- what 32 refuses, 64 refuses with the same number
-    pub wide_refuses : (x : Refusal) (p : MemberPosition) → r ≡ answer.Refused x p → (q : MemberPosition) × (r' ≡ answer.Refused x q)
+    pub wide_refuses : (x : Refusal) (p : MemberPosition) → r ≡ Err (record { why = x; at = p }) → (q : MemberPosition) × (r' ≡ Err (record { why = x; at = q }))
     unfolding placement_answer then
     wide_refuses x p e =
-        let a = then_refused (λ (p : Placing). p.layout) (placing mem32 t.now n refs.now narrow_room) (number_of x) p.0 (sym narrow.0 ∙ ap placement_means e) in
+        let a = then_refused (λ (p : Placing). p.layout) (placing mem32 t.now n refs.now narrow_room) (number_of x) p.0 (sym narrow.0 ∙ ap (answer member_place whole_means) e) in
         let j = beside_refused beside a in
         (record { 0 = j.0 }, refusal_told r' x (record { 0 = j.0 }) (wide.0 ∙ ap layout_only j.1))
 
 -- 02, order 6: "Placement reports likewise for its references"
 
 module _
-    (κs : Lfts 4) (m : Memory) (t : Bor (List ℕ)) (n : ℕ) (refs : Bor (List ℕ)) (o g : MutBor (List ℕ)) (r : PlacementAnswer) (l k : List ℕ)
+    (κs : Lfts 4) (m : Memory) (t : Bor (List ℕ)) (n : ℕ) (refs : Bor (List ℕ)) (o g : MutBor (List ℕ)) (r : Result Whole (Refused MemberPosition)) (l k : List ℕ)
     (promise : placement.Post κs (m, (t, (n, (refs, (o, (g, tt)))))) r (m, (t, (n, (refs, (at_last o l, (at_last g k, tt)))))))
   where
     -- accepted, it reports how many of the references are of the form 64+j
-    pub placement_reads_are : (f : canon.Layout) → placement_means r ≡ ok f → whole_reads r ≡ rows_among refs.now
+    pub placement_reads_are : (f : canon.Layout) → answer member_place whole_means r ≡ ok f → whole_reads r ≡ rows_among refs.now
     unfolding placement_reads
     placement_reads_are f e = promise.1.1.0 ∙ ap (λ (a : Answer canon.Layout). reported a (rows_among refs.now)) (sym promise.0 ∙ e)
 
     -- accepted, a reference is of this form exactly when it names one of the rows
-    pub placement_reads_named : (f : canon.Layout) → placement_means r ≡ ok f → Every (λ v. is_row v ≡ is_earlier n v) refs.now
+    pub placement_reads_named : (f : canon.Layout) → answer member_place whole_means r ≡ ok f → Every (λ v. is_row v ≡ is_earlier n v) refs.now
     unfolding placement_answer
     placement_reads_named f e =
         let p = answered (placing (memory_of m) t.now n refs.now (room_of o.now g.now)) f o.now _ (sym e ∙ promise.0) refl in
@@ -270,8 +271,8 @@ module _
 module _
     (κs κs' : Lfts 4) (m : Memory) (t refs refs' : Bor (List ℕ)) (o g o' g' : MutBor (List ℕ)) (n : ℕ) (vs : List ℕ) (u v : Whole) (l k l' k' : List ℕ)
     (appended : refs'.now ≡ refs.now ++ vs)
-    (fewer : placement.Post κs (m, (t, (n, (refs, (o, (g, tt)))))) (answer.Whole u) (m, (t, (n, (refs, (at_last o l, (at_last g k, tt)))))))
-    (all : placement.Post κs' (m, (t, (n, (refs', (o', (g', tt)))))) (answer.Whole v) (m, (t, (n, (refs', (at_last o' l', (at_last g' k', tt)))))))
+    (fewer : placement.Post κs (m, (t, (n, (refs, (o, (g, tt)))))) (Ok u) (m, (t, (n, (refs, (at_last o l, (at_last g k, tt)))))))
+    (all : placement.Post κs' (m, (t, (n, (refs', (o', (g', tt)))))) (Ok v) (m, (t, (n, (refs', (at_last o' l', (at_last g' k', tt)))))))
   where
     -- no offset before them moves
     pub offsets_kept : take (length refs.now) l' ≡ take (length refs.now) l

@@ -1,21 +1,25 @@
 -- One reference: what a question takes of it is a part of what canon's `read` gives. A loop over
 -- references: these infos have been read, and the rest comes behind them. A law for each turn, whatever is made of the infos.
 use mathlib.Core.Path.{◌≡◌, refl, sym, ap, ◌∙◌}
-use mathlib.Core.Bool.{false}
+use mathlib.Core.Bool.{Bool, true, false, cond, ◌&&◌}
 use mathlib.Core.List.{List, [], ◌∷◌, ◌++◌, append_assoc, append-nil}
 use Prim.Native.Nat.{ℕ, ◌+◌, ◌-◌, ◌≤◌, ◌<◌}
 use native.Mathlib.Numerals.{add-one}
 use lib.ListN.{length, get_or, get_elem?, drop, drop_of_length-le}
 use lib.Seq.{drop-cons}
 use borrow.Author.Tests.{lt-leb, le-leb, lt-ltb, le-ltb}
-use Rattle.canon.specs.Answer.{Leaf, is, no, bad_ref, Answer, ok, refused, at_position, then, and_then}
-use Rattle.canon.specs.Row.{Info}
+use Rattle.canon.specs.Answer.{Leaf, is, no, bad_ref, bad_row, Answer, ok, refused, at_position, then, and_then}
+use Rattle.canon.specs.Layout.{Memory, mem32, mem64, within}
+use Rattle.canon.specs.Row.{Info, row_info}
 use Rattle.canon.specs.Types.{plain}
 use Rattle.canon.specs.Question.{plain_info, read_row, read, no_table, infos}
 use Rattle.canon.proofs.Tests.{impossible}
 use Rattle.canon.proofs.Questions.{then_then, then_ext}
-use Rattle.table.specs.Rows.{row_in}
-use Rattle.table.proofs.Reading.{row_is}
+use Rattle.types.specs.Means.{layout_means, each, layouts_means}
+use Rattle.types.specs.declared.both.Both.{Both}
+use Rattle.types.specs.declared.extent.Layout.{Layout}
+use Rattle.table.specs.Rows.{row_in, good_first_words, good_later_words}
+use Rattle.table.proofs.Reading.{row_is, good_halves}
 use Rattle.questions.specs.Steps.{part}
 
 -- One reference
@@ -86,3 +90,19 @@ module _ (look : ℕ → Leaf Info) (ws : List ℕ) where
   pub ends : (k : ℕ) (done : List Info) → Read k done → length ws ≤ k → infos look 0 ws ≡ ok done
   unfolding infos then
   ends k done r h = r ∙ rw (drop_of_length-le ws {i = k} h, append-nil done)
+
+-- A row by the halves of its good form
+pub row_halves :
+    {A : Type 0} (f : Info → A) (r : List ℕ) →
+    part f (read_row r) ≡ cond (good_first_words r && good_later_words r) (is (f (row_info r))) (no bad_row)
+unfolding read_row and_then
+row_halves f r = rw (good_halves r) (go (good_first_words r && good_later_words r))
+  where
+    go : (b : Bool) → and_then (cond b (is (row_info r)) (no bad_row)) (λ i. is (f i)) ≡ cond b (is (f (row_info r))) (no bad_row)
+    go true = refl
+    go false = refl
+
+-- What an info has in one memory
+pub layout_within : (m : Memory) (ls : Both Layout) → layout_means (within m (each ls)) ≡ within m (layouts_means ls)
+layout_within mem32 ls = refl
+layout_within mem64 ls = refl

@@ -93,3 +93,7 @@ read_alone m t n w c i e f =
 -- One more info together with those before it
 pub with_more_lem : (m : Memory) (is' : List Info) (i : Info) → with_more (together m is') (alone m i) ≡ together m (is' ++ i ∷ [])
 with_more_lem m is' i = rw (flat_more m is' i, any_borrow_more is' i)
+
+-- so is that of what a reference gives
+pub read_byte : (t : List ℕ) (n w c : ℕ) (i : Info) → is i ≡ read t n w → i.abi.flats ≡ count_of c → c ≤ 255
+read_byte t n w c i e f = counted_byte c (rw f at (read_counted t n w i (sym e)))

@@ -1,5 +1,5 @@
 -- The steps of the inner functions, as the code takes them; proofs/ carries them to canon.
-use Rattle.std.specs.Prelude.{cond, ◌||◌, List, map, ◌≡◌, ℕ, ◌%◌, ◌<◌, ◌≤◌, length, get_or}
+use Rattle.std.specs.Prelude.{cond, ◌||◌, List, map, ◌≡◌, ℕ, ◌%◌, ◌<◌, ◌≤◌, length, get_or, Result, Option, Some, None, IsSome, unwrap_or}
 use Rattle.canon.specs.Answer.{Leaf, is, and_then, Answer, ok, refused, then, too_large}
 use Rattle.canon.specs.Layout.{Memory, Layout, starts, last_end, largest_number}
 use Rattle.canon.specs.Row.{Info, flat_of, info_layout}
@@ -10,15 +10,19 @@ use Rattle.canon.specs.Gaps.{Padded, padded, offsets_of, gaps_of}
 use Rattle.canon.proofs.Tightest.{Aligned}
 use Rattle.canon.specs.Placement.{four_gib}
 use Rattle.types.specs.Extents.{start_extent, member_of, closing, is_large, layout_of}
+use Rattle.types.specs.Means.{layout_means}
 use Rattle.types.specs.declared.extent.Extent.{Extent}
+use Rattle.types.specs.declared.extent.Layout as code
 use Rattle.flat_types.specs.Lists.{packed}
 use Rattle.flat_types.specs.Places.{append_to}
+use Rattle.table.specs.Means.{answer, member_place}
 use Rattle.table.specs.declared.info.MemberPosition.{MemberPosition}
+use Rattle.table.specs.declared.refused.Refused.{Refused}
 use Rattle.questions.specs.Gathers.{Together, Two, together_two}
-use Rattle.questions.specs.Means.{placement_means, whole_reads, after_means, half_of, halves}
-use Rattle.questions.specs.declared.pair.Half.TheVariants.{Low, High}
-use Rattle.questions.specs.declared.answer.PlacementAnswer.{PlacementAnswer}
+use Rattle.questions.specs.Means.{whole_means, whole_reads, after_means}
+use Rattle.questions.specs.declared.answer.Whole.{Whole}
 use Rattle.questions.specs.declared.placed.Placed.{Placed}
+use Rattle.questions.specs.declared.placing.Staged.{Staged}
 
 -- what a question takes of what is read
 abbrev pub part : {A : Type 0} → (Info → A) → Leaf Info → Leaf A
@@ -77,49 +81,60 @@ abbrev pub after_part : Answer Padded → Answer ℕ
 after_part a = then a (λ q. ok q.after)
 
 -- it is answered, with the rows that were read back and the gap after the last
-pub record Answers (m : Memory) (t : List ℕ) (n : ℕ) (ws : List ℕ) (r : PlacementAnswer) : Type 0 where
-  pub answer : placement_means r ≡ layout_part (padded_refs m t n ws)
+pub record Answers (m : Memory) (t : List ℕ) (n : ℕ) (ws : List ℕ) (r : Result Whole (Refused MemberPosition)) : Type 0 where
+  pub answer : answer member_place whole_means r ≡ layout_part (padded_refs m t n ws)
   pub reads : whole_reads r ≡ reported (layout_part (padded_refs m t n ws)) (rows_among ws)
   pub after : after_means r ≡ after_part (padded_refs m t n ws)
 
 -- and the buffers are what it leaves there
-pub record Places (m : Memory) (t : List ℕ) (n : ℕ) (ws out gs : List ℕ) (r : PlacementAnswer) (out' gs' : List ℕ) : Type 0 where
+pub record Places (m : Memory) (t : List ℕ) (n : ℕ) (ws out gs : List ℕ) (r : Result Whole (Refused MemberPosition)) (out' gs' : List ℕ) : Type 0 where
   pub answers : Answers m t n ws r
   pub offsets : out' ≡ buffer_after offsets_of (padded_refs m t n ws) out
   pub gaps : gs' ≡ buffer_after gaps_of (padded_refs m t n ws) gs
 
--- staged: the offset is the low word of a pair, the gap before it the high one
-pub record Pairs (stage : List ℕ) (q : Padded) : Type 0 where
-  pub offsets : offsets_of q ≡ halves Low stage
-  pub gaps : gaps_of q ≡ halves High stage
+-- staged: the offset and the gap of each member
 
--- The memo: a word for each reference, its alignment above its size; 0 where none was read
+abbrev pub staged_offsets : List Staged → List ℕ
+staged_offsets ss = map (λ (s : Staged). s.offset) ss
 
-abbrev pub memo_layout : ℕ → Layout
-memo_layout x = record { size = half_of Low x; align = half_of High x }
+abbrev pub staged_gaps : List Staged → List ℕ
+staged_gaps ss = map (λ (s : Staged). s.gap) ss
+
+pub record Stages (stage : List Staged) (q : Padded) : Type 0 where
+  pub offsets : offsets_of q ≡ staged_offsets stage
+  pub gaps : gaps_of q ≡ staged_gaps stage
+
+-- The memo: for each reference the layout that was read, if it was
+
+abbrev pub at_place : List (Option code.Layout) → ℕ → Option code.Layout
+at_place memo w = get_or memo w None
 
 -- what is there is what the reference gives
-abbrev pub Remembers : (ℕ → Leaf Layout) → List ℕ → Type 0
-Remembers look memo = (w : ℕ) → 0 < get_or memo w 0 → look w ≡ is (memo_layout (get_or memo w 0))
+abbrev pub Remembers : (ℕ → Leaf Layout) → List (Option code.Layout) → Type 0
+Remembers look memo = (w : ℕ) (f : code.Layout) → at_place memo w ≡ Some f → look w ≡ is (layout_means f)
 
 -- after a reference was looked up: nothing is forgotten, and where it gives a layout it is there
-pub record Recalled (look : ℕ → Leaf Layout) (w : ℕ) (before after : List ℕ) : Type 0 where
+pub record Recalled (look : ℕ → Leaf Layout) (w : ℕ) (before after : List (Option code.Layout)) : Type 0 where
   pub holds : Remembers look after
-  pub keeps : (v : ℕ) → 0 < get_or before v 0 → 0 < get_or after v 0
-  pub found : (f : Layout) → look w ≡ is f → 0 < get_or after w 0
+  pub keeps : (v : ℕ) → IsSome (at_place before v) → IsSome (at_place after v)
+  pub found : (f : Layout) → look w ≡ is f → IsSome (at_place after w)
+
+-- the layout that is there; what stands for one that is not is never asked for
+abbrev pub layout_at : List (Option code.Layout) → ℕ → Layout
+layout_at memo w = layout_means (unwrap_or (at_place memo w) (record { size = 0; align = 0 }))
 
 -- the layouts of references that are all there
-abbrev pub known : List ℕ → List ℕ → List Layout
-known memo ws = map (λ (w : ℕ). memo_layout (get_or memo w 0)) ws
+abbrev pub known : List (Option code.Layout) → List ℕ → List Layout
+known memo ws = map (λ (w : ℕ). layout_at memo w) ws
 
 -- all are there, and they fit one after another
-pub record AllKnown (memo ws : List ℕ) : Type 0 where
-  pub there : (k : ℕ) → k < length ws → 0 < get_or memo (get_or ws k 0) 0
+pub record AllKnown (memo : List (Option code.Layout)) (ws : List ℕ) : Type 0 where
+  pub there : (k : ℕ) → k < length ws → IsSome (at_place memo (get_or ws k 0))
   pub aligned : Aligned (known memo ws)
   pub fits : last_end 0 (known memo ws) ≤ largest_number
 
 -- and the placement has their offsets and gaps
-pub record Ready (memo ws : List ℕ) (q : Padded) : Type 0 where
+pub record Ready (memo : List (Option code.Layout)) (ws : List ℕ) (q : Padded) : Type 0 where
   pub all : AllKnown memo ws
   pub offsets : offsets_of q ≡ starts 0 (known memo ws)
   pub gaps : gaps_of q ≡ canon_gaps.gaps 0 (known memo ws)

@@ -1,6 +1,5 @@
-// What a question answers: a value, or the refusal with the position of the reference at fault, 0 where none is.
-use table::MemberPosition;
-use types::{CanonicalAbiInfo, Layout, Refusal};
+// What a question answers where it refuses nothing.
+use types::{CanonicalAbiInfo, Layout};
 
 // What a type question answers: the five numbers, the flat words, the borrow and the depth.
 #[derive(Clone, Copy)]
@@ -12,18 +11,6 @@ pub struct TypeInfo {
     pub depth: u32,
 }
 
-#[derive(Clone, Copy)]
-pub enum TypeAnswer {
-    Info(TypeInfo),
-    Refused(Refusal, MemberPosition),
-}
-
-#[derive(Clone, Copy)]
-pub enum LayoutAnswer {
-    Layout(Layout),
-    Refused(Refusal, MemberPosition),
-}
-
 // What a placement answers of the whole: how many rows were read back for its members, its layout, and the gap after the last of them. With the
 // reads behind the layout short placements take longer (docs/BENCHMARKS.md).
 #[derive(Clone, Copy)]
@@ -31,10 +18,4 @@ pub struct Whole {
     pub reads: u32,
     pub layout: Layout,
     pub after: u32,
-}
-
-#[derive(Clone, Copy)]
-pub enum PlacementAnswer {
-    Whole(Whole),
-    Refused(Refusal, MemberPosition),
 }

@@ -1,99 +1,70 @@
 // Answers the type question.
-ghost use Rattle.std.specs.Prelude.{◌≡◌, false, ◌≤◌};
+ghost use Rattle.std.specs.Prelude.{◌≡◌, ◌≤◌};
 ghost use Rattle.canon.specs.Row.{count_of};
-ghost use Rattle.canon.specs.Question.{read, no_table, type_answer};
-ghost use Rattle.types.specs.Means.{count_means};
-ghost use Rattle.table.specs.Means.{info_means};
-ghost use Rattle.questions.specs.Means.{reading_means, type_info_means, type_means};
+ghost use Rattle.canon.specs.Question.{read, type_answer};
+ghost use Rattle.types.specs.Means.{leaf, count_means};
+ghost use Rattle.table.specs.Means.{answer, member_place, info_means};
+ghost use Rattle.questions.specs.Means.{type_info_means};
 
-use crate::answer::{TypeAnswer, TypeInfo};
-use crate::read::no_table;
-use table::{
-    DefinitionIndex, FIRST_DEFINITION, Found, Info, MemberPosition, is_good_row, plain_info,
-    row_info,
-};
-use types::{CanonicalAbiInfo, FlatCount, NO_FLAT_COUNT, Refusal};
+use crate::answer::TypeInfo;
+use crate::read::{Rows, refused};
+use table::{FIRST_DEFINITION, Info, MemberPosition, Refused, plain_info, row_info};
+use types::{CanonicalAbiInfo, NO_FLAT_COUNT, Refusal};
 
-#[derive(Clone, Copy)]
-enum Reading {
-    Info(Info),
-    Refused(Refusal),
-}
-
-// Tests the row as row_named does, but by itself: with one caller alone the compiler would take is_good_row into row_named, and that out of the loop of a
-// flatten (docs/BENCHMARKS.md).
-fn read_row(table: &[u32], n: u32, reference: u32) -> Reading
-    requires { (no_table table.now n ≡ false) × (64 ≤ reference) }
-    ensures { reading_means result ≡ read table.now n reference }
-{
-    let index = DefinitionIndex(reference - FIRST_DEFINITION);
-    if index.0 < n {
-        if is_good_row(table, index) {
-            Reading::Info(row_info(table, index))
-        } else {
-            Reading::Refused(Refusal::BadRow)
-        }
-    } else {
-        Reading::Refused(Refusal::BadRef)
-    }
-}
-
-fn read(table: &[u32], n: u32, reference: u32) -> Reading
-    requires { no_table table.now n ≡ false }
-    ensures { reading_means result ≡ read table.now n reference }
+#[tactic(auto, using(crate::proofs::References::read_plain))]
+fn read(rows: Rows, reference: u32) -> Result<Info, Refusal>
+    ensures { leaf info_means result ≡ read rows.entry.table.now rows.entry.n reference }
 {
     if reference < FIRST_DEFINITION {
-        return match plain_info(reference) {
-            Found::Info(info) => Reading::Info(info),
-            Found::BadRef => Reading::Refused(Refusal::BadRef),
-        };
+        return plain_info(reference);
     }
-    read_row(table, n, reference)
+    Ok(row_info(rows.table, rows.good_row(reference)?))
 }
 
 // A row's flat count: 255 is none.
-fn flat_count(count: u32) -> FlatCount
+fn flat_count(count: u32) -> Option<u8>
     requires { count ≤ 255 }
     ensures { count_means result ≡ count_of count }
 {
     if count == NO_FLAT_COUNT {
-        FlatCount::None
+        None
     } else {
-        FlatCount::Count(count as u8)
+        Some(count as u8)
     }
 }
 
+#[tactic(auto, unfolding(canon::specs::Reach::word_reach))]
 fn type_info(info: Info) -> TypeInfo
     requires { info.flat.count ≤ 255 }
     ensures { type_info_means result ≡ info_means info }
 {
-    let layouts = info.layouts;
-    let flat = info.flat;
-    let reach = info.reach;
     TypeInfo {
         abi: CanonicalAbiInfo {
-            size32: layouts.in32.size,
-            align32: layouts.in32.align,
-            size64: layouts.in64.size,
-            align64: layouts.in64.align,
-            flat_count: flat_count(flat.count),
+            size32: info.layouts.in32.size,
+            align32: info.layouts.in32.align,
+            size64: info.layouts.in64.size,
+            align64: info.layouts.in64.align,
+            flat_count: flat_count(info.flat.count),
         },
-        flat32: flat.word32(),
-        flat64: flat.word64(),
-        borrow: reach.is_borrow(),
-        depth: reach.depth(),
+        flat32: info.flat.word32(),
+        flat64: info.flat.word64(),
+        borrow: info.reach.is_borrow(),
+        depth: info.reach.depth(),
     }
 }
 
 // Refuses BadRow for the table, then BadRef for the reference, then BadRow for its row.
-pub fn canonical_abi(table: &[u32], n: u32, reference: u32) -> TypeAnswer
-    ensures { type_means result ≡ type_answer table.now n reference }
+#[tactic(auto, using(crate::proofs::WellFormed::read_byte), unfolding(canon::specs::Answer::unless, canon::specs::Answer::at_position, canon::specs::Question::type_answer))]
+pub fn canonical_abi(
+    table: &[u32],
+    n: u32,
+    reference: u32,
+) -> Result<TypeInfo, Refused<MemberPosition>>
+    ensures { answer member_place type_info_means result ≡ type_answer table.now n reference }
 {
-    if no_table(table, n) {
-        return TypeAnswer::Refused(Refusal::BadRow, MemberPosition(0));
-    }
-    match read(table, n, reference) {
-        Reading::Info(info) => TypeAnswer::Info(type_info(info)),
-        Reading::Refused(why) => TypeAnswer::Refused(why, MemberPosition(0)),
-    }
+    let Some(rows) = Rows::of(table, n) else {
+        return Err(refused(Refusal::BadRow));
+    };
+    let info = read(rows, reference).map_err(refused)?;
+    Ok(type_info(info))
 }

@@ -1,14 +1,16 @@
 // What the references of a list give together: the flat list in one memory, and whether they reach a Borrow.
-ghost use Rattle.std.specs.Prelude.{◌≡◌, false, ◌≤◌, length};
-ghost use Rattle.canon.specs.Question.{read, no_table};
-ghost use Rattle.types.specs.Means.{memory_of};
-ghost use Rattle.questions.specs.Means.{one_means, gathering_means, gathered_means};
-ghost use Rattle.questions.specs.Gathers.{together_refs, gather_answer};
+ghost use Rattle.std.specs.Prelude.{◌≡◌, ◌≤◌};
+ghost use Rattle.canon.specs.Answer.{ok, then};
+ghost use Rattle.canon.specs.Question.{read, infos};
+ghost use Rattle.types.specs.Means.{memory_of, leaf};
+ghost use Rattle.table.specs.Means.{answer, member_place};
+ghost use Rattle.questions.specs.Means.{gathering_means};
+ghost use Rattle.questions.specs.Gathers.{together, gather_answer};
 ghost use Rattle.questions.specs.Steps.{part, alone, with_more};
 
-use crate::read::{Named, no_table, row_named, too_many};
+use crate::read::{References, Rows, refused};
 use flat_types::FlatList;
-use table::{FIRST_DEFINITION, Found, MemberPosition, plain_info, row_flat, row_reach};
+use table::{FIRST_DEFINITION, MemberPosition, Refused, plain_info, row_flat, row_reach};
 use types::{Memory, Refusal};
 
 #[derive(Clone, Copy)]
@@ -17,91 +19,78 @@ pub struct Gathering {
     pub borrow: bool,
 }
 
-#[derive(Clone, Copy)]
-pub enum Gathered {
-    All(Gathering),
-    Refused(Refusal, MemberPosition),
-}
-
-// What one reference gives.
-#[derive(Clone, Copy)]
-enum Next {
-    One(Gathering),
-    Refused(Refusal),
-}
-
-const NOTHING: Gathering = Gathering {
-    flat: FlatList::EMPTY,
-    borrow: false,
-};
-
 impl Gathering {
+    const NOTHING: Gathering = Gathering {
+        flat: FlatList::EMPTY,
+        borrow: false,
+    };
+
     // Adds what one more reference gives.
     fn with(self, next: Gathering) -> Gathering
         ensures { gathering_means result ≡ with_more (gathering_means self) (gathering_means next) }
     {
-        let flat = self.flat;
         Gathering {
-            flat: flat.append(next.flat),
+            flat: self.flat.append(next.flat),
             borrow: self.borrow || next.borrow,
         }
     }
 }
 
-fn read_next(memory: Memory, table: &[u32], n: u32, reference: u32) -> Next
-    requires { no_table table.now n ≡ false }
-    ensures { one_means result ≡ part (alone (memory_of memory)) (read table.now n reference) }
+#[tactic(auto, using(crate::proofs::References::read_plain, crate::proofs::WellFormed::read_alone), unfolding(canon::specs::Answer::and_then))]
+fn read_next(rows: Rows, memory: Memory, reference: u32) -> Result<Gathering, Refusal>
+    ensures { leaf gathering_means result ≡ part (alone (memory_of memory)) (read rows.entry.table.now rows.entry.n reference) }
 {
     if reference < FIRST_DEFINITION {
-        return match plain_info(reference) {
-            Found::Info(info) => {
-                let flat = info.flat;
-                let reach = info.reach;
-                Next::One(Gathering {
-                    flat: flat.in_memory(memory),
-                    borrow: reach.is_borrow(),
-                })
-            }
-            Found::BadRef => Next::Refused(Refusal::BadRef),
-        };
+        let info = plain_info(reference)?;
+        return Ok(Gathering {
+            flat: info.flat.in_memory(memory),
+            borrow: info.reach.is_borrow(),
+        });
     }
-    match row_named(table, n, reference) {
-        Named::Row(index) => Next::One(Gathering {
-            flat: row_flat(table, index, memory),
-            borrow: row_reach(table, index).is_borrow(),
-        }),
-        Named::Refused(why) => Next::Refused(why),
-    }
+    let index = rows.good_row(reference)?;
+    Ok(Gathering {
+        flat: row_flat(rows.table, index, memory),
+        borrow: row_reach(rows.table, index).is_borrow(),
+    })
 }
 
-// Reads each reference in order.
-pub(crate) fn gather_all(memory: Memory, table: &[u32], n: u32, references: &[u32]) -> Gathered
-    requires { (no_table table.now n ≡ false) × (length references.now ≤ 16384) }
-    ensures { gathered_means result ≡ together_refs (memory_of memory) table.now n references.now }
+// Reads each reference in order; the first is at the position `first`. It is compiled into its callers: what it answers would else go through the
+// stack, and the processor waits for it.
+#[inline(always)]
+pub(crate) fn gather_all(
+    rows: Rows,
+    memory: Memory,
+    references: References,
+    first: u32,
+) -> Result<Gathering, Refused<MemberPosition>>
+    requires { first ≤ 16384 }
+    ensures { answer member_place gathering_means result ≡ then (infos (read rows.entry.table.now rows.entry.n) first references.entry.words.now) (λ is'. ok (together (memory_of memory) is')) }
 {
-    let mut all = NOTHING;
-    let mut k: usize = 0;
-    while k < references.len() {
-        match read_next(memory, table, n, references[k]) {
-            Next::One(next) => {
-                all = all.with(next);
-            }
-            Next::Refused(why) => return Gathered::Refused(why, MemberPosition(k as u32)),
-        }
-        k += 1;
+    let mut all = Gathering::NOTHING;
+    for (k, reference) in references.words.iter().enumerate() {
+        let at = MemberPosition(first + k as u32);
+        let next = read_next(rows, memory, *reference).map_err(|why| Refused { why, at })?;
+        all = all.with(next);
     }
-    Gathered::All(all)
+    Ok(all)
 }
 
 // Makes the one pass over a list. Refuses TooLong, then BadRow for the table, then the first bad reference; positions count from 0.
-pub fn gather(memory: Memory, table: &[u32], n: u32, references: &[u32]) -> Gathered
-    ensures { gathered_means result ≡ gather_answer (memory_of memory) table.now n references.now }
+#[inline(always)]
+#[tactic(auto, unfolding(canon::specs::Answer::unless, crate::specs::Gathers::gather_answer))]
+pub fn gather(
+    memory: Memory,
+    table: &[u32],
+    n: u32,
+    references: &[u32],
+) -> Result<Gathering, Refused<MemberPosition>>
+    ensures { answer member_place gathering_means result ≡ gather_answer (memory_of memory) table.now n references.now }
 {
-    if too_many(references) {
-        return Gathered::Refused(Refusal::TooLong, MemberPosition(0));
-    }
-    if no_table(table, n) {
-        return Gathered::Refused(Refusal::BadRow, MemberPosition(0));
-    }
-    gather_all(memory, table, n, references)
+    let Some(references) = References::of(references) else {
+        return Err(refused(Refusal::TooLong));
+    };
+    let Some(rows) = Rows::of(table, n) else {
+        return Err(refused(Refusal::BadRow));
+    };
+    gather_all(rows, memory, references, 0)
 }

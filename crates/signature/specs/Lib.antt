@@ -1,4 +1,4 @@
 -- What the promises of this crate cite beside canon.
 pub mod Packs
 pub mod Means
-pub mod Questions
+pub mod Asked

@@ -1,13 +1,11 @@
 -- canon's answers with each list as a count and packed types. 01: "`Vec<ValType>` becomes a count and packed types, at most 17".
-use Rattle.std.specs.Prelude.{◌≡◌, cond, List, ℕ, length}
+use Rattle.std.specs.Prelude.{cond, List, ℕ, length}
 use Rattle.std.proofs.Math.Option.{Option, none, some}
 use Rattle.canon.specs.Answer.{Answer, ok, then, too_long, bad_count, bad_row}
 use Rattle.canon.specs.Pack.{Packed, pack}
 use Rattle.canon.specs.Question.{too_many, no_table}
 use Rattle.canon.specs.Signature.{Flattened, listed, in_memory, Signature}
 use Rattle.canon.specs.Types.{Core}
-use Rattle.flat_types.specs.Lists.{packed, words, flat}
-use Rattle.flat_types.specs.declared.list.FlatList.{FlatList}
 
 abbrev pub packed_list : List Core → Packed
 packed_list l = record { number = length l; types = pack l }
@@ -31,10 +29,6 @@ abbrev pub packed_answer : Answer Signature → Answer PackedSignature
 packed_answer a = then a (λ s. ok (packed_signature s))
 
 -- The inner functions' words
-
--- a list's words are those that are written for what it stands for
-abbrev pub Whole : FlatList → Type 0
-Whole f = words f ≡ packed (flat f)
 
 -- a maximum above 16: "TooLong, n, maximum"
 unfoldable pub bad_maximum : List ℕ → ℕ → List ℕ → ℕ

@@ -5,12 +5,14 @@ mod flatten;
 mod functype;
 mod lists;
 mod question;
+mod side;
 mod signatures;
+mod two;
 
 pub use flatten::{
-    BorrowAnswer, Flattened, MAX_FLAT_ASYNC_PARAMS, MAX_FLAT_PARAMS, MAX_FLAT_RESULTS, Side,
     contains_borrow_resource, flatten_lifting_types, flatten_lowering_types, flatten_types,
 };
 pub use functype::{Context, flatten_functype};
 pub use question::{SignatureQuestion, signature_of};
-pub use signatures::{Signature, SignatureAnswer, async_return_signature, async_start_signature};
+pub use side::{MAX_FLAT_ASYNC_PARAMS, MAX_FLAT_PARAMS, MAX_FLAT_RESULTS, Side};
+pub use signatures::{Signature, async_return_signature, async_start_signature};

@@ -1,18 +1,13 @@
-// Answers a question on two lists that is given as a value, for a caller that decodes the lists in one place. It calls none of the three
-// signature functions, so that each keeps one caller and is compiled into it.
+// Answers a question on two lists that is given as a value, for a caller that decodes the lists in one place.
 ghost use Rattle.std.specs.Prelude.{◌≡◌};
-ghost use Rattle.flat_types.specs.Lists.{flat};
-ghost use Rattle.types.specs.Means.{memory_of};
-ghost use Rattle.signature.specs.Means.{signature_means, signature_answer_means, question_answer};
-ghost use Rattle.signature.specs.Packs.{packed_signature, packed_answer, Whole};
-ghost use Rattle.signature.specs.Questions.{first_memory, second_memory, made_of};
+ghost use Rattle.table.specs.Means.{answer, member_place};
+ghost use Rattle.signature.specs.Means.{signature_means, question_answer};
+ghost use Rattle.signature.specs.Packs.{packed_answer};
 
-use crate::flatten::Side;
-use crate::functype::{Context, functype_of};
-use crate::signatures::{Signature, SignatureAnswer, return_of, start_of};
-use flat_types::FlatList;
-use questions::{GatheredTwo, gather_two};
-use types::Memory;
+use crate::functype::{Context, flatten_functype};
+use crate::side::Side;
+use crate::signatures::{Signature, async_return_signature, async_start_signature};
+use table::{MemberPosition, Refused};
 
 // Each has what the function of its name takes beside the table and the lists: a start lower then lift, a return lift then lower.
 #[derive(Clone, Copy)]
@@ -22,40 +17,6 @@ pub enum SignatureQuestion {
     Functype(Context, Side, bool),
 }
 
-fn first_memory(question: SignatureQuestion) -> Memory
-    ensures { memory_of result ≡ first_memory question }
-{
-    match question {
-        SignatureQuestion::AsyncStart(lower, _) => lower.memory,
-        SignatureQuestion::AsyncReturn(lift, _) => lift.memory,
-        SignatureQuestion::Functype(_, side, _) => side.memory,
-    }
-}
-
-fn second_memory(question: SignatureQuestion) -> Memory
-    ensures { memory_of result ≡ second_memory question }
-{
-    match question {
-        SignatureQuestion::AsyncStart(_, lift) => lift.memory,
-        SignatureQuestion::AsyncReturn(_, lower) => lower.memory,
-        SignatureQuestion::Functype(_, side, _) => side.memory,
-    }
-}
-
-// `empty` is whether the second list has no references.
-fn made(question: SignatureQuestion, first: FlatList, second: FlatList, empty: bool) -> Signature
-    requires { Whole first × Whole second }
-    ensures { signature_means result ≡ packed_signature (made_of question (flat first) (flat second) empty) }
-{
-    match question {
-        SignatureQuestion::AsyncStart(lower, lift) => start_of(lower, first, lift, second),
-        SignatureQuestion::AsyncReturn(lift, lower) => return_of(lift, first, lower, second, empty),
-        SignatureQuestion::Functype(context, side, callback) => functype_of(
-            context, side, callback, first, second,
-        ),
-    }
-}
-
 // Refuses as the function that the question names.
 pub fn signature_of(
     question: SignatureQuestion,
@@ -63,16 +24,18 @@ pub fn signature_of(
     n: u32,
     first: &[u32],
     second: &[u32],
-) -> SignatureAnswer
-    ensures { signature_answer_means result ≡ packed_answer (question_answer question table.now n first.now second.now) }
+) -> Result<Signature, Refused<MemberPosition>>
+    ensures { answer member_place signature_means result ≡ packed_answer (question_answer question table.now n first.now second.now) }
 {
-    let one = first_memory(question);
-    let other = second_memory(question);
-    match gather_two(table, n, one, first, other, second) {
-        GatheredTwo::Both(a, b) => {
-            let empty = second.len() == 0;
-            SignatureAnswer::Signature(made(question, a.flat, b.flat, empty))
+    match question {
+        SignatureQuestion::AsyncStart(lower, lift) => {
+            async_start_signature(table, n, lower, first, lift, second)
         }
-        GatheredTwo::Refused(why, position) => SignatureAnswer::Refused(why, position),
+        SignatureQuestion::AsyncReturn(lift, lower) => {
+            async_return_signature(table, n, lift, first, lower, second)
+        }
+        SignatureQuestion::Functype(context, side, callback) => {
+            flatten_functype(context, side, callback, table, n, first, second)
+        }
     }
 }

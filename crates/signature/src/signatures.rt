@@ -1,16 +1,16 @@
 // Answers the signatures of a call's start and of its return.
 ghost use Rattle.std.specs.Prelude.{◌≡◌};
-ghost use Rattle.canon.specs.Signature.{at_most, params_max, start_of, behind_pointer, return_of, async_start_answer, async_return_answer};
+ghost use Rattle.canon.specs.Signature.{at_most, start_of, behind_pointer, return_of, async_start_answer, async_return_answer};
 ghost use Rattle.flat_types.specs.Lists.{flat};
-ghost use Rattle.signature.specs.Means.{side_means, signature_means, signature_answer_means};
-ghost use Rattle.signature.specs.Packs.{packed_signature, packed_answer, Whole};
+ghost use Rattle.table.specs.Means.{answer, member_place};
+ghost use Rattle.signature.specs.Means.{side_means, signature_means};
+ghost use Rattle.signature.specs.Packs.{packed_signature, packed_answer};
 
-use crate::flatten::{MAX_FLAT_ASYNC_PARAMS, MAX_FLAT_PARAMS, MAX_FLAT_RESULTS, Side, lifting_max};
-use crate::lists::{or_nothing, or_pointer};
+use crate::lists::CleanList;
+use crate::side::{MAX_FLAT_PARAMS, MAX_FLAT_RESULTS, Side};
+use crate::two::asked;
 use flat_types::FlatList;
-use questions::{GatheredTwo, gather_two};
-use table::MemberPosition;
-use types::Refusal;
+use table::{MemberPosition, Refused};
 
 #[derive(Clone, Copy)]
 pub struct Signature {
@@ -18,35 +18,18 @@ pub struct Signature {
     pub results: FlatList,
 }
 
-#[derive(Clone, Copy)]
-pub enum SignatureAnswer {
-    Signature(Signature),
-    Refused(Refusal, MemberPosition),
-}
-
-pub(crate) fn params_max(async_: bool) -> u32
-    ensures { result ≡ params_max async_ }
+#[tactic(auto, unfolding(canon::specs::Signature::start_of))]
+fn start_of(lower: Side, params: CleanList, lift: Side, results: CleanList) -> Signature
+    ensures { signature_means result ≡ packed_signature (start_of (side_means lower) (flat params.list) (side_means lift) (flat results.list)) }
 {
-    if async_ {
-        MAX_FLAT_ASYNC_PARAMS
-    } else {
-        MAX_FLAT_PARAMS
-    }
-}
-
-pub(crate) fn start_of(lower: Side, params: FlatList, lift: Side, results: FlatList) -> Signature
-    requires { Whole params × Whole results }
-    ensures { signature_means result ≡ packed_signature (start_of (side_means lower) (flat params) (side_means lift) (flat results)) }
-{
-    let lower_memory = lower.memory;
-    let lift_memory = lift.memory;
     Signature {
-        params: or_pointer(lower_memory, params_max(lower.async_), params),
-        results: or_pointer(lift_memory, MAX_FLAT_PARAMS, results),
+        params: params.or_pointer(lower.memory, lower.params_max()),
+        results: results.or_pointer(lift.memory, MAX_FLAT_PARAMS),
     }
 }
 
 // Refuses TooLong for either list, then BadRow for the table, then the first bad reference of lower's list, then of lift's.
+#[inline(always)]
 pub fn async_start_signature(
     table: &[u32],
     n: u32,
@@ -54,59 +37,53 @@ pub fn async_start_signature(
     lowered: &[u32],
     lift: Side,
     lifted: &[u32],
-) -> SignatureAnswer
-    ensures { signature_answer_means result ≡ packed_answer (async_start_answer table.now n (side_means lower) lowered.now (side_means lift) lifted.now) }
+) -> Result<Signature, Refused<MemberPosition>>
+    ensures { answer member_place signature_means result ≡ packed_answer (async_start_answer table.now n (side_means lower) lowered.now (side_means lift) lifted.now) }
 {
-    let lower_memory = lower.memory;
-    let lift_memory = lift.memory;
-    match gather_two(table, n, lower_memory, lowered, lift_memory, lifted) {
-        GatheredTwo::Both(params, results) => {
-            SignatureAnswer::Signature(start_of(lower, params.flat, lift, results.flat))
-        }
-        GatheredTwo::Refused(why, position) => SignatureAnswer::Refused(why, position),
-    }
+    let made = |params, results| start_of(lower, params, lift, results);
+    asked(table, n, lower.memory, lowered, lift.memory, lifted, made)
 }
 
 // Whether lower's results go behind a pointer: an async lower takes none on the stack.
-fn behind_pointer(async_: bool, empty: bool, lowered: FlatList) -> bool
-    requires { Whole lowered }
-    ensures { result ≡ behind_pointer async_ empty (at_most 1 (flat lowered)) }
+#[tactic(auto, using(crate::proofs::Maxima::behind_is), unfolding(canon::specs::Signature::behind_pointer))]
+fn behind_pointer(async_: bool, empty: bool, lowered: CleanList) -> bool
+    ensures { result ≡ behind_pointer async_ empty (at_most 1 (flat lowered.list)) }
 {
     if async_ {
-        if empty { false } else { true }
+        !empty
     } else {
-        lowered.count > MAX_FLAT_RESULTS
+        lowered.at_most(MAX_FLAT_RESULTS).is_none()
     }
 }
 
 // `empty` is whether lower has no references: a record of nothing is one.
-pub(crate) fn return_of(
+#[tactic(auto, using(crate::proofs::Maxima::pointer_behind), unfolding(canon::specs::Signature::return_of, canon::specs::Signature::returned, canon::specs::Pack::pack))]
+fn return_of(
     lift: Side,
-    lifted: FlatList,
+    lifted: CleanList,
     lower: Side,
-    lowered: FlatList,
+    lowered: CleanList,
     empty: bool,
 ) -> Signature
-    requires { Whole lifted × Whole lowered }
-    ensures { signature_means result ≡ packed_signature (return_of (side_means lift) (flat lifted) (side_means lower) (flat lowered) empty) }
+    ensures { signature_means result ≡ packed_signature (return_of (side_means lift) (flat lifted.list) (side_means lower) (flat lowered.list) empty) }
 {
-    let memory = lift.memory;
-    let params = or_pointer(memory, lifting_max(lift.async_), lifted);
+    let params = lifted.or_pointer(lift.memory, lift.lifting_max());
     if behind_pointer(lower.async_, empty, lowered) {
         // The source pushes lift's pointer here, not lower's.
         Signature {
-            params: params.with_pointer(memory),
+            params: params.with_pointer(lift.memory),
             results: FlatList::EMPTY,
         }
     } else {
         Signature {
             params,
-            results: or_nothing(lowered),
+            results: lowered.or_nothing(),
         }
     }
 }
 
 // Refuses TooLong for either list, then BadRow for the table, then the first bad reference of lift's list, then of lower's.
+#[inline(always)]
 pub fn async_return_signature(
     table: &[u32],
     n: u32,
@@ -114,16 +91,10 @@ pub fn async_return_signature(
     lifted: &[u32],
     lower: Side,
     lowered: &[u32],
-) -> SignatureAnswer
-    ensures { signature_answer_means result ≡ packed_answer (async_return_answer table.now n (side_means lift) lifted.now (side_means lower) lowered.now) }
+) -> Result<Signature, Refused<MemberPosition>>
+    ensures { answer member_place signature_means result ≡ packed_answer (async_return_answer table.now n (side_means lift) lifted.now (side_means lower) lowered.now) }
 {
-    let lift_memory = lift.memory;
-    let lower_memory = lower.memory;
-    match gather_two(table, n, lift_memory, lifted, lower_memory, lowered) {
-        GatheredTwo::Both(params, results) => {
-            let empty = lowered.len() == 0;
-            SignatureAnswer::Signature(return_of(lift, params.flat, lower, results.flat, empty))
-        }
-        GatheredTwo::Refused(why, position) => SignatureAnswer::Refused(why, position),
-    }
+    let empty = lowered.is_empty();
+    let made = |params, results| return_of(lift, params, lower, results, empty);
+    asked(table, n, lift.memory, lifted, lower.memory, lowered, made)
 }

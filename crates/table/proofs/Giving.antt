@@ -1,5 +1,5 @@
 -- A row put into bytes word by word is the row put into their words.
-use mathlib.Core.Path.{◌≡◌, sym, ap, ◌∙◌}
+use mathlib.Core.Path.{◌≡◌, refl, sym, ap, ◌∙◌}
 use mathlib.Core.Bool.{Bool, true, false, cond}
 use mathlib.Core.List.{List, [], ◌∷◌}
 use Prim.Native.Nat.{ℕ, zero, suc, ◌/◌, ◌≤◌, ◌<◌}
@@ -11,7 +11,7 @@ use Rattle.canon.proofs.Cells.{length_put_from, put_step, put_none}
 use Rattle.words.specs.Words.{whole_words, put_words}
 use Rattle.words.proofs.Laws.{length_whole, set_below, whole_small, put_all, put_same, puts_over}
 use Rattle.table.specs.Rows.{row_in, table_with}
-use Rattle.table.proofs.Reading.{row_there, row_missing, put_there, put_missing}
+use Rattle.table.proofs.Reading.{length_cells, row_there, row_missing, put_there, put_missing}
 use Rattle.table.proofs.Putting.{put_nothing}
 
 module _ (room row : ℕ) (ws : List ℕ) where
@@ -39,27 +39,31 @@ module _ (room row : ℕ) (ws : List ℕ) where
       long : length one ≡ length b / 4
       long = length-set (whole_words b) (place room row k) w ∙ length_whole b
 
-  pub give_end : (k : ℕ) (b : List ℕ) → ((j : ℕ) → get_or b j 0 < 256) → length ws ≤ k → left_into k b ≡ b
+  give_end : (k : ℕ) (b : List ℕ) → ((j : ℕ) → get_or b j 0 < 256) → length ws ≤ k → left_into k b ≡ b
   give_end k b bytes h = ap (λ (v : List ℕ). put_words 0 v b) (put_none room row k ws (whole_words b) h) ∙ put_same b bytes
 
-module _ (t b : List ℕ) (from to j : ℕ) (has : from ≡ capacity (length t)) (takes : to ≡ capacity (length b / 4)) where
-  room : to ≡ capacity (length (whole_words b))
-  room = takes ∙ ap capacity (sym (length_whole b))
+-- the end of the loop
+pub give_stored :
+    (t b : List ℕ) (from to row at j : ℕ) → from ≡ capacity (length t) → to ≡ capacity (length b / 4) → row ≡ j → at ≡ j → row < from → at < to →
+    (k : ℕ) (u : List ℕ) → 16 ≤ k → ((i : ℕ) → get_or u i 0 < 256) →
+    left_into to at (cells_from from t row 0 16) k u ≡ left_into to at (cells_from from t row 0 16) 0 b →
+    u ≡ put_words 0 (table_with (whole_words b) j (row_in t j)) b
+give_stored t b from to row at j has takes e f h l k u full bytes kept =
+    let ws = cells_from from t row 0 16 in
+    sym (give_end to at ws k u bytes (omega (arith, length_cells from t row 0 16)))
+    ∙ kept
+    ∙ ap (λ (v : List ℕ). put_words 0 v b) (sym (put_there (whole_words b) to at (takes ∙ ap capacity (sym (length_whole b))) ws l))
+    ∙ rw (← row_there t from row has h, e, f)
 
-  pub give_there :
-      j < from → j < to → put_words 0 (put_from to j 0 (cells_from from t j 0 16) (whole_words b)) b ≡ put_words 0 (table_with (whole_words b) j (row_in t j)) b
-  give_there h l =
-      ap (λ (v : List ℕ). put_words 0 v b)
-      (sym (put_there (whole_words b) to j room (row_in t j) l ∙ ap (λ (r : List ℕ). put_from to j 0 r (whole_words b)) (row_there t from j has h)))
-
+module _ (t b : List ℕ) (j : ℕ) where
   unchanged : ((i : ℕ) → get_or b i 0 < 256) → table_with (whole_words b) j (row_in t j) ≡ whole_words b → b ≡ put_words 0 (table_with (whole_words b) j (row_in t j)) b
   unchanged bytes e = sym (ap (λ (v : List ℕ). put_words 0 v b) e ∙ put_same b bytes)
 
-  pub give_full : ((i : ℕ) → get_or b i 0 < 256) → to ≤ j → b ≡ put_words 0 (table_with (whole_words b) j (row_in t j)) b
-  give_full bytes h = unchanged bytes (put_missing (whole_words b) to j room (row_in t j) h)
+  pub give_full : ((i : ℕ) → get_or b i 0 < 256) → capacity (length b / 4) ≤ j → b ≡ put_words 0 (table_with (whole_words b) j (row_in t j)) b
+  give_full bytes h = unchanged bytes (put_missing (whole_words b) _ j (ap capacity (sym (length_whole b))) (row_in t j) h)
 
-  pub give_none : ((i : ℕ) → get_or b i 0 < 256) → from ≤ j → b ≡ put_words 0 (table_with (whole_words b) j (row_in t j)) b
-  give_none bytes h = unchanged bytes (ap (table_with (whole_words b) j) (row_missing t from j has h) ∙ put_nothing (whole_words b) j)
+  pub give_none : ((i : ℕ) → get_or b i 0 < 256) → capacity (length t) ≤ j → b ≡ put_words 0 (table_with (whole_words b) j (row_in t j)) b
+  give_none bytes h = unchanged bytes (ap (table_with (whole_words b) j) (row_missing t _ j refl h) ∙ put_nothing (whole_words b) j)
 
 -- The numbers of what is put are below a bound where those of both tables are
 

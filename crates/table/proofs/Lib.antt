@@ -3,4 +3,5 @@ pub mod Giving
 pub mod Putting
 pub mod Reading
 pub mod References
+pub mod Told
 pub mod Unique

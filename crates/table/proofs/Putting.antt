@@ -2,15 +2,27 @@
 use mathlib.Core.Path.{◌≡◌, refl, sym, ap, ◌∙◌}
 use mathlib.Core.Bool.{Bool, true, false, cond}
 use mathlib.Core.List.{List, [], ◌∷◌}
-use Prim.Native.Nat.{ℕ, ◌+◌, ◌<◌}
+use Prim.Native.Nat.{ℕ, ◌+◌, ◌≤◌, ◌<◌}
 use native.Mathlib.Nat.{add-zero}
 use native.Mathlib.Omega.{arith}
 use lib.Dec.{ltb}
-use lib.ListN.{length, get_or}
+use lib.ListN.{length, get_or, set, drop}
 use Rattle.canon.specs.Table.{capacity, place, cell, row_at, put_from, put_rows}
-use Rattle.canon.proofs.Cells.{place_apart, room_fits, length_put_from, kept, row_cell, cell_of, cells_same}
+use Rattle.canon.proofs.Cells.{place_apart, room_fits, length_put_from, put_step, put_none, kept, row_cell, cell_of, cells_same}
 use Rattle.table.specs.Rows.{table_with}
 use Rattle.table.proofs.Reading.{put_there}
+
+-- a turn of the loop that stores a row, and its end: what is left to store, stored, makes the whole
+module _ (room row k : ℕ) (ws t : List ℕ) where
+  pub store_turn :
+      (p v : ℕ) → k < length ws → p ≡ place room row k → v ≡ get_or ws k 0 →
+      put_from room row (k + 1) (drop (k + 1) ws) (set t p v) ≡ put_from room row k (drop k ws) t
+  store_turn p v h e f = rw (e, f) (sym (put_step room row k (k + 1) ws t h (omega arith)))
+
+  pub store_end :
+      (u : List ℕ) (j : ℕ) → room ≡ capacity (length u) → row ≡ j → row < room → length ws ≤ k →
+      put_from room row k (drop k ws) t ≡ put_from room row 0 ws u → t ≡ table_with u j ws
+  store_end u j e f h l kept = sym (put_none room row k ws t l) ∙ kept ∙ rw (← f) (sym (put_there u room row e ws h))
 
 -- a row of no words changes nothing
 pub put_nothing : (t : List ℕ) (j : ℕ) → table_with t j [] ≡ t

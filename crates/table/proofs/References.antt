@@ -1,15 +1,16 @@
 -- The references without a definition.
 use mathlib.Core.Path.{◌≡◌, refl, ap, ◌∙◌}
-use mathlib.Core.Bool.{Bool, false, cond, ◌||◌}
+use mathlib.Core.Bool.{cond, ◌||◌}
 use mathlib.Core.List.{List, [], ◌∷◌}
 use mathlib.Core.Option.{Option, none, some}
 use Prim.Native.Nat.{ℕ, zero, suc, ◌*◌, ◌/◌, ◌%◌, ◌^◌, ◌≤◌, ◌<◌}
 use native.Mathlib.Omega.{arith}
-use lib.Dec.{eqb}
+use lib.Dec.{eqb, ltb}
 use lib.ListN.{length, get_elem?}
 use Rattle.canon.specs.Answer.{is, map_option}
 use Rattle.canon.specs.Types.{Ty, plain}
-use Rattle.canon.specs.Layout.{Memory, mem32, mem64, within, square, layout}
+use borrow.Author.Tests.{ne_eqb}
+use Rattle.canon.specs.Layout.{Memory, mem32, mem64, both, within, square, layout}
 use Rattle.canon.specs.Flat.{flatten, flat_count}
 use Rattle.canon.specs.Reach.{reach}
 use Rattle.canon.specs.Pack.{Packed}
@@ -20,47 +21,40 @@ use Rattle.canon.proofs.Reaches.{word_back}
 use Rattle.flat_types.specs.Lists.{halves, packed, words_in}
 use Rattle.flat_types.proofs.References.{same_below}
 use Rattle.flat_types.proofs.Rows.{plain_words_lem}
-use Rattle.table.specs.Means.{Plain, PlainLayouts, reach_means, reach_of, info_means}
+use Rattle.std.specs.Prelude.{Some}
+use Rattle.types.specs.Means.{abi_means}
+use Rattle.types.specs.declared.info.CanonicalAbiInfo.{CanonicalAbiInfo}
+use Rattle.table.specs.Means.{PlainLayouts, reach_means, reach_of, info_means}
 use Rattle.table.specs.declared.info.Info.{Info}
 
--- a scalar of n bytes, in either memory
+-- what the arms of plain.rt have
 
-in_both : (k n : ℕ) → ((m : Memory) → map_option (layout m) (get_elem? plain k) ≡ some (square n)) → PlainLayouts k (record { in32 = square n; in64 = square n })
-in_both k n e mem32 = e mem32
-in_both k n e mem64 = e mem64
+abbrev scalar : ℕ → CanonicalAbiInfo
+scalar n = record { size32 = n; align32 = n; size64 = n; align64 = n; flat_count = Some 1 }
 
-abbrev Sized : ℕ → ℕ → Type 0
-Sized n k = ((m : Memory) → map_option (layout m) (get_elem? plain k) ≡ some (square n)) × (map_option flat_count (get_elem? plain k) ≡ some (some 1))
+abbrev pair : CanonicalAbiInfo
+pair = record { size32 = 8; align32 = 4; size64 = 16; align64 = 8; flat_count = Some 2 }
 
-pub as_wide : (k n : ℕ) → Sized n k → Plain k (record { layouts = record { in32 = square n; in64 = square n }; flats = some 1 })
-as_wide k n e = (in_both k n e.0, e.1)
+unfoldable pub arm : ℕ → CanonicalAbiInfo
+arm k = cond (ltb k 3) (scalar 1) (cond (ltb k 5) (scalar 2) (cond (eqb k 7 || (eqb k 8 || eqb k 10)) (scalar 8) (cond (eqb k 12) pair (scalar 4))))
 
--- the scalars of one, two and eight bytes and String have their own arm; every other one has four
+pub arm_is : (k : ℕ) (a : CanonicalAbiInfo) → k ≤ 17 → a ≡ arm k → PlainLayouts k (abi_means a).layouts
+unfolding arm layout
+arm_is k a h e mem32 = rw e (same_below 18 (λ i. map_option (layout mem32) (get_elem? plain i)) (λ i. some (abi_means (arm i)).layouts.in32) refl k (omega arith))
+arm_is k a h e mem64 = rw e (same_below 18 (λ i. map_option (layout mem64) (get_elem? plain i)) (λ i. some (abi_means (arm i)).layouts.in64) refl k (omega arith))
 
-unfoldable pub armed : ℕ → Bool
-armed k = eqb k 0 || (eqb k 1 || (eqb k 2 || (eqb k 3 || (eqb k 4 || (eqb k 7 || (eqb k 8 || (eqb k 10 || eqb k 12)))))))
-
-pub rest_is_four : (k : ℕ) → k ≤ 17 → armed k ≡ false → Sized 4 k
-unfolding armed layout flat_count
-rest_is_four k h e = (
-  λ m. rw e at (same_below 18 (λ i. cond (armed i) none (map_option (layout m) (get_elem? plain i))) (λ i. cond (armed i) none (some (square 4))) refl k (omega arith)),
-  rw e at (same_below 18 (λ i. cond (armed i) none (map_option flat_count (get_elem? plain i))) (λ i. cond (armed i) none (some (some 1))) refl k (omega arith)),
-)
-
--- or the size by its halvings, and String apart
-
--- HALVINGS of plain.rt
-abbrev halvings : ℕ
-halvings = 22888584895
+-- or a scalar's size by its HALVINGS
 
 abbrev pub halved : ℕ → ℕ
-halved k = 8 / 2 ^ (halvings / 2 ^ (2 * k) % 4)
+halved k = 8 / 2 ^ (22888584895 / 2 ^ (2 * k) % 4)
 
-pub halved_is : (k : ℕ) → k ≤ 17 → eqb k 12 ≡ false → PlainLayouts k (record { in32 = square (halved k); in64 = square (halved k) })
+abbrev but_string : {A : Type 0} → (ℕ → Option A) → ℕ → Option A
+but_string f k = cond (eqb k 12) none (f k)
+
+pub halved_is : (k : ℕ) → k ≤ 17 → (k ≡ 12 → ⊥) → PlainLayouts k (both (λ m. square (halved k)))
 unfolding layout
-halved_is k h e =
-    in_both k (halved k)
-    (λ m. rw e at (same_below 18 (λ i. cond (eqb i 12) none (map_option (layout m) (get_elem? plain i))) (λ i. cond (eqb i 12) none (some (square (halved i)))) refl k (omega arith)))
+halved_is k h s mem32 = rw (ne_eqb k 12 s) at (same_below 18 (but_string (λ i. map_option (layout mem32) (get_elem? plain i))) (but_string (λ i. some (square (halved i)))) refl k (omega arith))
+halved_is k h s mem64 = rw (ne_eqb k 12 s) at (same_below 18 (but_string (λ i. map_option (layout mem64) (get_elem? plain i))) (but_string (λ i. some (square (halved i)))) refl k (omega arith))
 
 -- only Borrow is a borrow, and none goes deep
 reached : (k : ℕ) → k ≤ 17 → map_option reach (get_elem? plain k) ≡ some (record { borrow = eqb k 14; depth = 0 })
@@ -80,13 +74,10 @@ there k h = go (get_elem? plain k) (none_there plain k (omega arith))
     go none n = absurd (n refl)
     go (some t) n = (t, refl)
 
-pub string_is : {k : ℕ} → k ≡ 12 → Plain k (record { layouts = record { in32 = record { size = 8; align = 4 }; in64 = record { size = 16; align = 8 } }; flats = some 2 })
-unfolding layout flat_count
-string_is {k} e = (wide, rw e)
-  where
-    wide : (m : Memory) → map_option (layout m) (get_elem? plain k) ≡ some (within m (record { in32 = record { size = 8; align = 4 }; in64 = record { size = 16; align = 8 } }))
-    wide mem32 = rw e
-    wide mem64 = rw e
+pub string_is : {k : ℕ} → k ≡ 12 → PlainLayouts k (record { in32 = record { size = 8; align = 4 }; in64 = record { size = 16; align = 8 } })
+unfolding layout
+string_is e mem32 = rw e
+string_is e mem64 = rw e
 
 -- an info is a type's where its layouts, its flat words and its reach are
 pub info_is :

@@ -10,21 +10,18 @@ use Rattle.canon.specs.Row as canon
 use Rattle.canon.specs.Row.{count_word}
 use Rattle.canon.proofs.Rows.{count_word_count_of}
 use Rattle.canon.proofs.Reaches.{reach_back}
-use Rattle.canon.proofs.Tests.{impossible}
 use Rattle.types.specs.Means.{layout_means}
-use Rattle.types.proofs.Told.{told}
+use Rattle.std.specs.Prelude.{Result}
+use Rattle.types.proofs.Told.{Tells, told, leaf_told}
 use Rattle.types.specs.declared.extent.Layout.{Layout}
 use Rattle.types.specs.declared.memory.Memory.{Memory}
+use Rattle.types.specs.declared.refusal.Refusal.{Refusal}
 use Rattle.flat_types.specs.Lists.{words, whole}
 use Rattle.flat_types.proofs.Halves.{whole_halves}
 use Rattle.flat_types.specs.declared.list.FlatList.{FlatList}
-use Rattle.table.specs.Means.{reach_means, reach_of, deeper_means, info_means, found_means}
+use Rattle.table.specs.Means.{reach_means, reach_of, info_means}
 use Rattle.table.specs.declared.info.DefinitionIndex.{DefinitionIndex}
 use Rattle.table.specs.declared.info.Info.{Info}
-use Rattle.table.specs.declared.plain.Found.{Found}
-use Rattle.table.specs.declared.plain.Found.TheVariants as found
-use Rattle.table.specs.declared.reach.Deeper.{Deeper}
-use Rattle.table.specs.declared.reach.Deeper.TheVariants as deepened
 use Rattle.table.specs.declared.reach.Reach.{Reach}
 use Rattle.table.specs.declared.row.Row.{Row}
 use Rattle.table.proofs.cells.capacity.Reads as capacity
@@ -60,28 +57,16 @@ back x =
       reach = reach_of x.reach;
     }
 
-same_word : (r q : Reach) → reach_means r ≡ reach_means q → r ≡ q
-same_word = told reach_means reach_of (λ r. ap (λ (w : ℕ). record { 0 = w }) (reach_back r.0))
+word_told : Tells reach_means
+word_told = told reach_means reach_of (λ r. ap (λ (w : ℕ). record { 0 = w }) (reach_back r.0))
 
-same_info : (i j : Info) → info_means i ≡ info_means j → i ≡ j
-same_info =
+info_told : Tells info_means
+info_told =
     told info_means back (λ i k. record {
       layouts = i.layouts;
       flat = record { count = count_word_count_of i.flat.count k; words = whole_halves i.flat.words k };
       reach = record { 0 = reach_back i.reach.0 k };
     })
-
-same_found : (f g : Found) → found_means f ≡ found_means g → f ≡ g
-same_found (found.Info i) (found.Info j) e = ap found.Info (same_info i j (cc))
-same_found (found.Info i) found.BadRef e = impossible (cc)
-same_found found.BadRef (found.Info j) e = impossible (cc)
-same_found found.BadRef found.BadRef e = refl
-
-same_deeper : (d e : Deeper) → deeper_means d ≡ deeper_means e → d ≡ e
-same_deeper (deepened.Reach r) (deepened.Reach q) e = ap deepened.Reach (same_word r q (cc))
-same_deeper (deepened.Reach r) deepened.TooDeep e = impossible (cc)
-same_deeper deepened.TooDeep (deepened.Reach q) e = impossible (cc)
-same_deeper deepened.TooDeep deepened.TooDeep e = refl
 
 pub capacity_one : (n r q : ℕ) → capacity.Post tt (n, tt) r (n, tt) → capacity.Post tt (n, tt) q (n, tt) → r ≡ q
 capacity_one n r q g h = g.0 ∙ sym h.0
@@ -92,8 +77,8 @@ is_borrow_one x r q g h = g ∙ sym h
 pub depth_one : (x : Reach) (r q : ℕ) → depth.Post tt (x, tt) r (x, tt) → depth.Post tt (x, tt) q (x, tt) → r ≡ q
 depth_one x r q g h = g ∙ sym h
 
-pub deeper_one : (x : Reach) (r q : Deeper) → deeper.Post tt (x, tt) r (x, tt) → deeper.Post tt (x, tt) q (x, tt) → r ≡ q
-deeper_one x r q g h = same_deeper r q (g ∙ sym h)
+pub deeper_one : (x : Reach) (r q : Result Reach Refusal) → deeper.Post tt (x, tt) r (x, tt) → deeper.Post tt (x, tt) q (x, tt) → r ≡ q
+deeper_one x r q g h = leaf_told word_told r q (g ∙ sym h)
 
 pub join_one : (x y r q : Reach) → join.Post tt (x, (y, tt)) r (x, (y, tt)) → join.Post tt (x, (y, tt)) q (x, (y, tt)) → r ≡ q
 join_one x y r q g h = g ∙ sym h
@@ -101,15 +86,15 @@ join_one x y r q g h = g ∙ sym h
 pub is_good_one : (x : Reach) (r q : Bool) → is-good.Post tt (x, tt) r (x, tt) → is-good.Post tt (x, tt) q (x, tt) → r ≡ q
 is_good_one x r q g h = g ∙ sym h
 
-pub plain_info_one : (w : ℕ) (r q : Found) → plain-info.Post tt (w, tt) r (w, tt) → plain-info.Post tt (w, tt) q (w, tt) → r ≡ q
-plain_info_one w r q g h = same_found r q (g ∙ sym h)
+pub plain_info_one : (w : ℕ) (r q : Result Info Refusal) → plain-info.Post tt (w, tt) r (w, tt) → plain-info.Post tt (w, tt) q (w, tt) → r ≡ q
+plain_info_one w r q g h = leaf_told info_told r q (g ∙ sym h)
 
-pub plain_info_by_shifts_one : (w : ℕ) (r q : Found) → plain-info-by-shifts.Post tt (w, tt) r (w, tt) → plain-info-by-shifts.Post tt (w, tt) q (w, tt) → r ≡ q
-plain_info_by_shifts_one w r q g h = same_found r q (g ∙ sym h)
+pub plain_info_by_shifts_one : (w : ℕ) (r q : Result Info Refusal) → plain-info-by-shifts.Post tt (w, tt) r (w, tt) → plain-info-by-shifts.Post tt (w, tt) q (w, tt) → r ≡ q
+plain_info_by_shifts_one w r q g h = leaf_told info_told r q (g ∙ sym h)
 
 module _ (κs : Lfts 1) (t : Bor (List ℕ)) (j : DefinitionIndex) where
   pub row_info_one : (r q : Info) → row-info.Post κs (t, (j, tt)) r (t, (j, tt)) → row-info.Post κs (t, (j, tt)) q (t, (j, tt)) → r ≡ q
-  row_info_one r q g h = same_info r q (g ∙ sym h)
+  row_info_one r q g h = info_told r q (g ∙ sym h)
 
   pub row_kind_one : (r q : ℕ) → row-kind.Post κs (t, (j, tt)) r (t, (j, tt)) → row-kind.Post κs (t, (j, tt)) q (t, (j, tt)) → r ≡ q
   row_kind_one r q g h = g ∙ sym h

@@ -1,23 +1,21 @@
 -- What this crate's values stand for.
-use Rattle.std.specs.Prelude.{cond, List, [], ◌∷◌, ◌≡◌, ℕ}
+use Rattle.std.specs.Prelude.{cond, List, [], ◌∷◌, ◌≡◌, ℕ, Result, Ok, Err}
 use Rattle.std.proofs.Math.Option.{some}
 use Rattle.std.proofs.Math.ListN.{get_elem?}
-use Rattle.canon.specs.Answer.{Leaf, is, no, map_option, bad_ref, too_deep}
-use Rattle.canon.specs.Flat.{flat_count}
+use Rattle.canon.specs.Answer.{Leaf, is, no, Answer, ok, refused, map_option, too_deep}
 use Rattle.canon.specs.Layout.{Both, Memory, within, Layout, layout}
 use Rattle.canon.specs.Row as canon
 use Rattle.canon.specs.Reach as reach
 use Rattle.canon.specs.Reach.{reach_word, word_reach, deeper, is_too_deep}
 use Rattle.canon.specs.Row.{count_of}
 use Rattle.canon.specs.Types.{plain}
-use Rattle.types.specs.Means.{layouts_means}
+use Rattle.types.specs.Means.{number_of, layouts_means}
 use Rattle.flat_types.specs.Lists.{halves}
 use Rattle.table.specs.declared.reach.Reach.{Reach}
-use Rattle.table.specs.declared.reach.Deeper.{Deeper}
-use Rattle.table.specs.declared.reach.Deeper.TheVariants as deepened
+use Rattle.table.specs.declared.info.DefinitionIndex.{DefinitionIndex}
 use Rattle.table.specs.declared.info.Info.{Info}
-use Rattle.table.specs.declared.plain.Found.{Found}
-use Rattle.table.specs.declared.plain.Found.TheVariants as found
+use Rattle.table.specs.declared.info.MemberPosition.{MemberPosition}
+use Rattle.table.specs.declared.refused.Refused.{Refused}
 use Rattle.table.specs.declared.row.Row.{Row}
 
 -- word 15
@@ -31,9 +29,18 @@ reach_of r = record { 0 = reach_word r }
 unfoldable pub deeper_answer : reach.Reach → Leaf reach.Reach
 deeper_answer r = cond (is_too_deep (deeper r)) (no too_deep) (is (deeper r))
 
-abbrev pub deeper_means : Deeper → Leaf reach.Reach
-deeper_means (deepened.Reach r) = is (reach_means r)
-deeper_means deepened.TooDeep = no too_deep
+-- what a build or a question answers: the value's meaning, or 01's number of the refusal with the position
+abbrev pub answer : {A B P : Type 0} → (P → ℕ) → (A → B) → Result A (Refused P) → Answer B
+answer place f (Ok a) = ok (f a)
+answer place f (Err e) = refused (number_of e.why) (place e.at)
+
+-- the positions of a build
+abbrev pub definition_place : DefinitionIndex → ℕ
+definition_place i = i.0
+
+-- the positions of a question
+abbrev pub member_place : MemberPosition → ℕ
+member_place i = i.0
 
 -- canon's info: the five numbers, the flat words, what is reached
 abbrev pub info_means : Info → canon.Info
@@ -47,15 +54,6 @@ info_means i =
 -- the layouts of a reference without a definition
 abbrev pub PlainLayouts : ℕ → Both Layout → Type 0
 PlainLayouts k ls = (m : Memory) → map_option (layout m) (get_elem? plain k) ≡ some (within m ls)
-
--- and its five numbers
-abbrev pub Plain : ℕ → canon.Abi → Type 0
-Plain k a = PlainLayouts k a.layouts × (map_option flat_count (get_elem? plain k) ≡ some a.flats)
-
--- 01's number of the refusal: a bad reference
-abbrev pub found_means : Found → Leaf canon.Info
-found_means (found.Info i) = is (info_means i)
-found_means found.BadRef = no bad_ref
 
 -- 01, "Row": the sixteen words in their order
 abbrev pub row_means : Row → List ℕ

@@ -1,6 +1,8 @@
-// Reads and writes the cells of a table; `place` alone says where a word of a row stands.
-ghost use Rattle.std.specs.Prelude.{◌≡◌, ◌*◌, ◌≤◌, ◌<◌, length};
-ghost use Rattle.canon.specs.Table.{capacity, place, cell, put_from};
+// Finds the cells of a row; `place` alone says where a word of a row stands.
+ghost use Rattle.std.specs.Prelude.{◌≡◌, ◌*◌, ◌≤◌, ◌<◌, MatchOption};
+ghost use Rattle.canon.specs.Table.{capacity, place};
+
+use crate::info::DefinitionIndex;
 
 // Every row has so many words.
 pub const ROW_WORDS: usize = 16;
@@ -11,37 +13,43 @@ pub const MOST_ROWS: usize = 1024;
 pub const TABLE_WORDS: usize = MOST_ROWS * ROW_WORDS;
 
 // Answers how many rows a buffer of so many words has room for.
+#[tactic(auto, unfolding(canon::specs::Table::capacity))]
 pub fn capacity(words: usize) -> usize
     ensures { (result ≡ capacity words) × (result ≤ 1024) × (16 * result ≤ words) }
 {
-    let rows = words / ROW_WORDS;
-    if rows < MOST_ROWS { rows } else { MOST_ROWS }
+    (words / ROW_WORDS).min(MOST_ROWS)
 }
 
-// The table is sixteen runs, one for each word of a row, and each as long as the table has room for rows.
-pub(crate) fn place(room: usize, row: usize, word: usize) -> usize
-    requires { (row < room) × (word < 16) × (room ≤ 1024) }
-    ensures { result ≡ place room row word }
-{
-    word * room + row
+// Holds which row it is, and how many rows its table has room for. The words may be numbers or bytes, lent to read or to write.
+#[derive(Clone, Copy)]
+pub(crate) struct Cells {
+    room: usize,
+    row: usize,
+    ghost there: { row < room },
+    ghost few: { room ≤ 1024 },
 }
 
-pub(crate) fn cell(table: &[u32], room: usize, row: usize, word: usize) -> u32
-    requires { (row < room) × (word < 16) × (room ≤ 1024) × (16 * room ≤ length table.now) }
-    ensures { result ≡ cell room table.now row word }
-{
-    let at = place(room, row, word);
-    table[at]
-}
+impl Cells {
+    // Finds nothing where a table of so many words has no room for the row.
+    pub(crate) fn of(words: usize, index: DefinitionIndex) -> Option<Cells>
+        ensures { MatchOption result (capacity words ≤ index.0) (λ c. (c.room ≡ capacity words) × (c.row ≡ index.0) × (16 * c.room ≤ words)) }
+    {
+        let room = capacity(words);
+        let row = index.0 as usize;
+        if row < room {
+            Some(Cells { room, row })
+        } else {
+            None
+        }
+    }
 
-pub(crate) fn put_cells(table: &mut [u32], room: usize, row: usize, words: [u32; ROW_WORDS])
-    requires { (row < room) × (room ≤ 1024) × (16 * room ≤ length table.old) }
-    ensures { table.new ≡ put_from room row 0 words table.old }
-{
-    let mut k: usize = 0;
-    while k < ROW_WORDS {
-        let at = place(room, row, k);
-        table[at] = words[k];
-        k += 1;
+    // The table is sixteen runs, one for each word of a row, and each as long as the table has room for rows.
+    #[tactic(auto, unfolding(canon::specs::Table::place))]
+    pub(crate) fn place(self, word: usize) -> usize
+        requires { word < 16 }
+        ensures is { result ≡ place self.room self.row word }
+        ensures within { result < 16 * self.room }
+    {
+        word * self.room + self.row
     }
 }

@@ -8,17 +8,19 @@ mod info;
 mod plain;
 mod reach;
 mod read;
+mod refused;
 mod row;
 mod to_bytes;
 
 pub use cells::{MOST_ROWS, ROW_WORDS, TABLE_WORDS, capacity};
 pub use from_bytes::take_row;
 pub use info::{DefinitionIndex, FIRST_DEFINITION, Info, MemberPosition, NO_LAYOUTS};
-pub use plain::{Found, plain_info, plain_info_by_shifts};
-pub use reach::{Deeper, Reach};
+pub use plain::{plain_info, plain_info_by_shifts};
+pub use reach::Reach;
 pub use read::{
     good_first_words, good_later_words, is_good_row, row_flat, row_info, row_kind, row_layout,
     row_reach,
 };
+pub use refused::Refused;
 pub use row::{Inner, Row, put_row};
 pub use to_bytes::give_row;

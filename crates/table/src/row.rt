@@ -3,9 +3,9 @@ ghost use Rattle.std.specs.Prelude.{◌≡◌};
 ghost use Rattle.table.specs.Means.{row_means};
 ghost use Rattle.table.specs.Rows.{table_with};
 
-use crate::cells::{ROW_WORDS, capacity, put_cells};
+use crate::cells::{Cells, ROW_WORDS};
 use crate::info::{DefinitionIndex, Info};
-use types::Layouts;
+use types::{Both, Layout};
 
 // Words 8 to 14: what lies inside a variant or a map.
 #[derive(Clone, Copy)]
@@ -13,7 +13,7 @@ pub struct Inner {
     pub discriminant: u32,
     pub offset32: u32,
     pub offset64: u32,
-    pub entries: Layouts,
+    pub entries: Both<Layout>,
 }
 
 #[derive(Clone, Copy)]
@@ -26,16 +26,15 @@ pub struct Row {
 fn row_words(row: Row) -> [u32; ROW_WORDS]
     ensures { result ≡ row_means row }
 {
-    let flat = row.info.flat;
     [
         row.kind,
         row.info.layouts.in32.size,
         row.info.layouts.in32.align,
         row.info.layouts.in64.size,
         row.info.layouts.in64.align,
-        flat.count,
-        flat.word32(),
-        flat.word64(),
+        row.info.flat.count,
+        row.info.flat.word32(),
+        row.info.flat.word64(),
         row.inner.discriminant,
         row.inner.offset32,
         row.inner.offset64,
@@ -51,9 +50,10 @@ fn row_words(row: Row) -> [u32; ROW_WORDS]
 pub fn put_row(table: &mut [u32], index: DefinitionIndex, row: Row)
     ensures { table.new ≡ table_with table.old index.0 (row_means row) }
 {
-    let room = capacity(table.len());
-    let at = index.0 as usize;
-    if at < room {
-        put_cells(table, room, at, row_words(row));
+    let Some(cells) = Cells::of(table.len(), index) else {
+        return;
+    };
+    for (k, word) in row_words(row).iter().enumerate() {
+        table[cells.place(k)] = *word;
     }
 }

@@ -30,11 +30,11 @@ use Rattle.canon.specs.Layout.{
 }
 use Rattle.canon.specs.Placement.{four_gib}
 use Rattle.canon.specs.Flat.{add_flat, greatest_flat, times_flat}
-use Rattle.canon.specs.Row.{Abi, good_abi}
+use Rattle.canon.specs.Row.{Abi, is_alignment, good_abi}
 use Rattle.canon.specs.Description.{some_above}
 use Rattle.canon.proofs.Alignments.{discriminant_alignment}
 use Rattle.canon.proofs.Sizes.{above_append, last_decides}
-use Rattle.canon.proofs.Rounding.{Alignment, by1, by2, by4, by8}
+use Rattle.canon.proofs.Rounding.{Alignment, by1, by2, by4, by8, alignment_test, abi_tested}
 use Rattle.types.specs.Leaves.{
   scalar_abi,
   given,
@@ -46,9 +46,13 @@ use Rattle.types.specs.Leaves.{
   enum_answer,
   fixed_answer,
 }
+use Rattle.types.specs.Means.{each, layouts_means, abi_means}
 use Rattle.types.specs.Extents.{extent_at, member_of, is_large, fitted_of}
 use Rattle.types.specs.States.{fitted_abi}
+use Rattle.types.specs.declared.extent.Layout as code
+use Rattle.types.specs.declared.both.Both as held
 use Rattle.types.specs.declared.extent.Step.{Step}
+use Rattle.types.specs.declared.info.CanonicalAbiInfo.{CanonicalAbiInfo}
 use Rattle.types.proofs.ExtentLaws.{reach_is, reach_large, member_reach_lem, fitted_reach}
 
 -- what is made of two exact ends, where the sizes alone decide
@@ -69,13 +73,23 @@ fitted_answer {A} k ns f h =
 pub fixed_answer_lem :
     (i : Abi) (n : ℕ) →
     good_abi i ≡ true →
-    fitted_abi (both (λ m. extent_at ((within m i.layouts).size * n) (within m i.layouts).align)) (times_flat i.flats n) ≡ fixed_answer i n
+    fixed_answer i n ≡ fitted_abi (both (λ m. extent_at ((within m i.layouts).size * n) (within m i.layouts).align)) (times_flat i.flats n)
 unfolding fitted_abi fixed_answer given
 fixed_answer_lem i n e =
     rw e
-    (fitted_answer (λ ls. record { layouts = ls; flats = times_flat i.flats n }) (λ m. (within m i.layouts).size * n ∷ [])
+    (sym (fitted_answer (λ ls. record { layouts = ls; flats = times_flat i.flats n }) (λ m. (within m i.layouts).size * n ∷ [])
     (λ m. record { size = (within m i.layouts).size * n; align = (within m i.layouts).align })
-    (λ m. last_decides largest_number [] ((within m i.layouts).size * n) tt))
+    (λ m. last_decides largest_number [] ((within m i.layouts).size * n) tt)))
+
+-- a good info is aligned in either memory
+pub good_aligned :
+    (i : CanonicalAbiInfo) (m : Memory) (b : held.Both code.Layout) (f : code.Layout) →
+    good_abi (abi_means i) ≡ true →
+    layouts_means b ≡ (abi_means i).layouts →
+    f ≡ within m (each b) →
+    is_alignment f.align ≡ true
+good_aligned i mem32 b f e h p = alignment_test (simp (p, ap (λ (l : Both Layout). l.in32.align) h) (abi_tested (abi_means i) e mem32))
+good_aligned i mem64 b f e h p = alignment_test (simp (p, ap (λ (l : Both Layout). l.in64.align) h) (abi_tested (abi_means i) e mem64))
 
 -- `next_field32` and `next_field64`: the field is a member of an extent that begins at the end
 
@@ -146,8 +160,8 @@ enum_layout : (n : ℕ) → variant_layout n [] ≡ square (discriminant n)
 unfolding variant_size payload_offset greatest_align greatest_size
 enum_layout n = rw (no_payload (discriminant_alignment n), no_payload_align (discriminant_alignment n))
 
-pub enum_answer_lem : (n : ℕ) → and_then (discriminant_answer n) (λ d. is (scalar_abi d)) ≡ enum_answer n
+pub enum_answer_lem : (n : ℕ) → enum_answer n ≡ and_then (discriminant_answer n) (λ d. is (scalar_abi d))
 unfolding enum_answer add_flat greatest_flat
 enum_answer_lem n =
-    discriminant_then n (λ d. is (scalar_abi d))
-    ∙ ap (λ (f : Layout). given (not (eqb n 0)) bad_count (is (record { layouts = both (λ m. f); flats = some 1 }))) (sym (enum_layout n))
+    ap (λ (f : Layout). given (not (eqb n 0)) bad_count (is (record { layouts = both (λ m. f); flats = some 1 }))) (enum_layout n)
+    ∙ sym (discriminant_then n (λ d. is (scalar_abi d)))

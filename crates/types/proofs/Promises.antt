@@ -17,6 +17,7 @@ use contract.Lifetimes.{Lfts}
 use contract.Monad.{Fun, fact, fact_i, fact_use}
 use denote.Ref.{Bor}
 use denote.Triple.Clauses.{AtExit}
+use Rattle.std.specs.Prelude.{Result}
 use Rattle.canon.specs.Answer.{Leaf, is, no as refuses, too_large, bad_row}
 use Rattle.canon.specs.Layout.{Memory, mem32, mem64, within, Layout, starts, record_size, record_layout, record_numbers, largest_number}
 use Rattle.canon.specs.Placement.{NoPlacement}
@@ -26,10 +27,10 @@ use Rattle.canon.proofs.Tightest.{Aligned, greatest_align_least, ours, tightest}
 use Rattle.canon.proofs.Sizes.{above_append, record_decides}
 use Rattle.canon.proofs.Refusals.{large_iff, Tightest}
 use Rattle.types.specs.declared.info.CanonicalAbiInfo.{CanonicalAbiInfo}
-use Rattle.types.specs.declared.info.InfoAnswer.{InfoAnswer}
+use Rattle.types.specs.declared.refusal.Refusal.{Refusal}
 use Rattle.types.specs.declared.record.RecordState.{RecordState}
 use Rattle.types.specs.Leaves.{given, fitting, all_good, abi_layouts, record_abi, record_answer}
-use Rattle.types.specs.Means.{abi_means, info_answer_means}
+use Rattle.types.specs.Means.{leaf, abi_means}
 use Rattle.types.proofs.RecordLaws.{all_aligned}
 use Rattle.types.proofs.Runs.{Record, record_run}
 use Rattle.types.proofs.record.RecordState.start.Reads as record-start
@@ -108,19 +109,19 @@ module _ (is' : List Abi) where
 
 -- `CanonicalAbiInfo::record`, after any fields from the start
 pub record_tight :
-    {s u : RecordState} {is' : List CanonicalAbiInfo} (r : InfoAnswer) →
+    {s u : RecordState} {is' : List CanonicalAbiInfo} (r : Result CanonicalAbiInfo Refusal) →
     record-start.Post tt tt s tt →
     Record s is' u →
     record-end.Post tt (u, tt) r (u, tt) →
-    Tight (map abi_means is') (info_answer_means r)
+    Tight (map abi_means is') (leaf abi_means r)
 record_tight {is' = is'} r begun run ended = rw (record_run r begun run ended) (tight (map abi_means is'))
 
 -- `CanonicalAbiInfo::record_static`, of the infos that are lent: whatever entails its promise entails this
 pub record_static_tight :
     {M : Type 1} {𝓤 : Ura M} (𝓛 : Logic 𝓤) (mem : Machine → SProp 𝓤) (run : Routine → Fun 𝓤) (P : SProp 𝓤) (κs : Lfts 1)
-    (fields : Bor (List CanonicalAbiInfo)) (end : AtExit record-static.ended κs) (r : InfoAnswer) →
+    (fields : Bor (List CanonicalAbiInfo)) (end : AtExit record-static.ended κs) (r : Result CanonicalAbiInfo Refusal) →
     ent 𝓤 P ((record-static.clauses 𝓛 mem run κs (fields, tt)).ensures tt r end) →
-    ent 𝓤 P (fact 𝓤 (Tight (map abi_means fields.now) (info_answer_means r)))
+    ent 𝓤 P (fact 𝓤 (Tight (map abi_means fields.now) (leaf abi_means r)))
 record_static_tight {𝓤 = 𝓤} 𝓛 mem run P κs fields end r g =
-    fact_use 𝓤 (info_answer_means r ≡ record_answer (map abi_means fields.now)) g
-    (λ e. fact_i 𝓤 (Tight (map abi_means fields.now) (info_answer_means r)) P (rw e (tight (map abi_means fields.now))))
+    fact_use 𝓤 (leaf abi_means r ≡ record_answer (map abi_means fields.now)) g
+    (λ e. fact_i 𝓤 (Tight (map abi_means fields.now) (leaf abi_means r)) P (rw e (tight (map abi_means fields.now))))

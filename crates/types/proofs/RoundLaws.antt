@@ -1,19 +1,18 @@
 -- The four alignments: a bit of one number each, a mask each; the unit of any number, its lowest bit; and rounding to that, by quotient and remainder, with
 -- what is skipped.
-use mathlib.Core.Path.{◌≡◌, refl, subst⁻¹, ◌∙◌}
+use mathlib.Core.Path.{◌≡◌, refl, ◌∙◌}
 use mathlib.Core.Bool.{Bool, true, false, cond}
 use Prim.Native.Nat.{ℕ, zero, suc, ◌+◌, ◌-◌, ◌*◌, ◌/◌, ◌%◌, ◌^◌, ◌≤◌, ◌<◌, ◌∣◌}
-use native.Mathlib.Nat.{div-add-mod, div-mul-le_self, div-mul_cancel, lt-div-mul-add, mod-lt, dvd-mul_left, dvd_of_mod-eq-zero, dvd_trans, le_refl, le_antisymm, lt_of_le_of_lt, le_of_lt, mul-le-mul_left, mul-le-mul_right, mul-lt-mul_of_pos_right}
+use native.Mathlib.Nat.{div-add-mod, div-mul-le_self, div-mul_cancel, lt-div-mul-add, mod-lt, dvd-mul_left, dvd_of_mod-eq-zero, dvd_trans, le_refl, le_antisymm, mul-le-mul_right}
 use native.Mathlib.Decide.{dec_le}
 use native.Mathlib.Omega.{arith}
 use lib.Dec.{eqb}
 use lib.Bits.{bit_and, bit_or, bit_xor, and_mask, and_high, or_add_and, and_block, xor_block, and_self, xor_self, and_lt}
-use lib.Pow.{pow_pos, pow-add}
 use borrow.Author.Tests.{ne_eqb}
 use Rattle.canon.specs.Row.{is_alignment}
 use Rattle.canon.specs.Layout.{round_up}
 use Rattle.canon.specs.Placement.{four_gib}
-use Rattle.canon.proofs.Rounding.{le_round_up, round_up_least, Alignment, by1, by2, by4, by8, alignment_pos, alignment_dvd}
+use Rattle.canon.proofs.Rounding.{le_round_up, round_up_least, Alignment, by1, by2, by4, by8, alignment_pos, alignment_dvd, alignment_tested}
 use Rattle.types.specs.Extents.{unit_of, rounded, rounded_up}
 
 -- each alignment is a bit of 278
@@ -120,6 +119,9 @@ lowest_bit a =
 pub unit_pos : (a : ℕ) → 0 < unit_of a
 unit_pos a = alignment_pos (unit_alignment a)
 
+pub unit_most : (a : ℕ) → unit_of a ≤ 8
+unit_most a = alignment_most (unit_alignment a)
+
 pub rounded_aligned : {a : ℕ} (x : ℕ) → Alignment a → rounded x a ≡ round_up x a
 unfolding rounded
 rounded_aligned x w = rw (unit_aligned w)
@@ -171,8 +173,10 @@ lack_skipped x u h e = omega (arith, mod-lt x h, one_unit_more x u h e, div-add-
 pub filled : (x u s : ℕ) → 0 < u → s ≡ round_up x u - x → x / u * u + (x % u + s) ≡ round_up x u
 filled x u s h e = omega (arith, le_round_up x u h, div-add-mod x u)
 
--- a product of two numbers that fit is below the product of their bounds
-pub product_lt : (j k : ℕ) {a b : ℕ} → a < 2 ^ j → b < 2 ^ k → a * b < 2 ^ (j + k)
-product_lt j k {a} {b} ha hb =
-    subst⁻¹ (λ (n : ℕ). a * b < n) (pow-add 2 j k)
-    (lt_of_le_of_lt (mul-le-mul_left a (le_of_lt hb)) (mul-lt-mul_of_pos_right ha (pow_pos k)))
+pub tested_pos : (a : ℕ) → is_alignment a ≡ true → 0 < a
+tested_pos a h = alignment_pos (alignment_tested a h)
+
+-- what `round_up` needs of the unit, and what a test of an alignment gives
+pub ruleset rounding = (unit_pos, unit_most, none_skipped, lack_skipped, filled)
+
+pub ruleset aligned = (alignment_tested, tested_pos, mask_rest, rounded_aligned)

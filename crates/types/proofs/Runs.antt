@@ -2,14 +2,15 @@
 use mathlib.Core.Path.{◌≡◌, refl, ap, ◌∙◌}
 use mathlib.Core.List.{List, [], ◌∷◌, map}
 use mathlib.Core.Option.{Option, none, some}
+use Rattle.std.specs.Prelude.{Result}
 use Rattle.canon.specs.Answer.{map_option}
+use Rattle.types.specs.declared.refusal.Refusal.{Refusal}
 use Rattle.types.specs.declared.info.CanonicalAbiInfo.{CanonicalAbiInfo}
-use Rattle.types.specs.declared.info.InfoAnswer.{InfoAnswer}
 use Rattle.types.specs.declared.record.RecordState.{RecordState}
 use Rattle.types.specs.declared.variant.VariantState.{VariantState}
-use Rattle.types.specs.declared.variant.VariantAnswer.{VariantAnswer}
+use Rattle.types.specs.declared.variant.VariantInfo.{VariantInfo}
 use Rattle.types.specs.Leaves.{record_answer, variant_answer, info_alone}
-use Rattle.types.specs.Means.{abi_means, info_answer_means, variant_means}
+use Rattle.types.specs.Means.{leaf, abi_means, variant_means}
 use Rattle.types.specs.States.{FieldState, record_means, add_fields, close_fields, CaseState, cases_means, add_cases, close_cases}
 use Rattle.types.proofs.RecordLaws.{record_answer_lem}
 use Rattle.types.proofs.VariantLaws.{variant_answer_lem}
@@ -37,11 +38,11 @@ record_steps ends = refl
 record_steps (takes {is' = is'} p r) = record_steps r ∙ ap (λ (f : FieldState). add_fields f (map abi_means is')) p
 
 pub record_run :
-    {s u : RecordState} {is' : List CanonicalAbiInfo} (r : InfoAnswer) →
+    {s u : RecordState} {is' : List CanonicalAbiInfo} (r : Result CanonicalAbiInfo Refusal) →
     record-start.Post tt tt s tt →
     Record s is' u →
     record-end.Post tt (u, tt) r (u, tt) →
-    info_answer_means r ≡ record_answer (map abi_means is')
+    leaf abi_means r ≡ record_answer (map abi_means is')
 record_run {is' = is'} r begun run ended =
     ended ∙ ap close_fields (record_steps run ∙ ap (λ (f : FieldState). add_fields f (map abi_means is')) begun) ∙ record_answer_lem (map abi_means is')
 
@@ -72,8 +73,8 @@ module _ {s u : VariantState} {cs : List (Option CanonicalAbiInfo)} (begun : var
       ap close_cases (variant_steps run ∙ ap (λ (f : CaseState). add_cases f (map (map_option abi_means) cs)) begun)
       ∙ variant_answer_lem (map (map_option abi_means) cs)
 
-  pub variant_run : (r : VariantAnswer) → variant_end.Post tt (u, tt) r (u, tt) → variant_means r ≡ variant_answer (map (map_option abi_means) cs)
+  pub variant_run : (r : Result (VariantInfo × CanonicalAbiInfo) Refusal) → variant_end.Post tt (u, tt) r (u, tt) → leaf variant_means r ≡ variant_answer (map (map_option abi_means) cs)
   variant_run r ended = ended ∙ closed
 
-  pub variant_info_run : (r : InfoAnswer) → info-end.Post tt (u, tt) r (u, tt) → info_answer_means r ≡ info_alone (variant_answer (map (map_option abi_means) cs))
+  pub variant_info_run : (r : Result CanonicalAbiInfo Refusal) → info-end.Post tt (u, tt) r (u, tt) → leaf abi_means r ≡ info_alone (variant_answer (map (map_option abi_means) cs))
   variant_info_run r ended = ended ∙ ap info_alone closed

@@ -1,9 +1,8 @@
 -- No second outcome meets a promise. What an answer means tells the answer, so two answers that mean the same are the same; each theorem is over the
 -- check's own reading of a function's contract.
-use mathlib.Core.Path.{◌≡◌, refl, sym, ap, ◌∙◌}
+use mathlib.Core.Path.{◌≡◌, refl, sym, ◌∙◌}
 use mathlib.Core.Bool.{cond}
 use mathlib.Core.List.{List, map}
-use mathlib.Core.Option.{Option, none, some}
 use Prim.Native.Nat.{ℕ}
 use lib.Dec.{eqb}
 use seplogic.Ra.Ura.{Ura}
@@ -14,35 +13,29 @@ use types.Logic.{Logic}
 use contract.Lifetimes.{Lfts}
 use contract.Monad.{Fun, fact, fact_i, fact_use}
 use denote.Ref.{Bor}
+use denote.RattleType.{RattleType}
+use denote.Param.Laws.{Laws, IsCopy}
+use mir.Syntax.{Dict}
+use Rattle.std.specs.declared.clone.Clone.{Ghosts}
 use denote.Triple.Clauses.{AtExit}
-use Rattle.canon.specs.Answer.{Leaf, is, no}
+use Rattle.std.specs.Prelude.{Result}
 use Rattle.canon.specs.Layout as canon
 use Rattle.canon.specs.Row.{Abi}
 use Rattle.types.specs.declared.round.Rounded.{Rounded}
-use Rattle.types.specs.declared.round.Rounded.TheVariants as rounded
-use Rattle.types.specs.declared.flat.FlatCount.{FlatCount}
-use Rattle.types.specs.declared.flat.FlatCount.TheVariants.{Count, None}
 use Rattle.types.specs.declared.discriminant.DiscriminantSize.{DiscriminantSize}
 use Rattle.types.specs.declared.discriminant.DiscriminantSize.TheVariants.{Size1, Size2, Size4}
-use Rattle.types.specs.declared.discriminant.DiscriminantAnswer.{DiscriminantAnswer}
-use Rattle.types.specs.declared.discriminant.DiscriminantAnswer.TheVariants as discriminant
 use Rattle.types.specs.declared.extent.Layout.{Layout}
-use Rattle.types.specs.declared.both.Layouts.{Layouts}
-use Rattle.types.specs.declared.both.Fitted.{Fitted}
-use Rattle.types.specs.declared.both.Fitted.TheVariants as fitted
+use Rattle.types.specs.declared.both.Both.{Both}
 use Rattle.types.specs.declared.info.CanonicalAbiInfo.{CanonicalAbiInfo}
-use Rattle.types.specs.declared.info.InfoAnswer.{InfoAnswer}
-use Rattle.types.specs.declared.info.InfoAnswer.TheVariants as info
 use Rattle.types.specs.declared.info.NextField.{NextField}
-use Rattle.types.specs.declared.info.NextField.TheVariants as next
 use Rattle.types.specs.declared.record.RecordState.{RecordState}
 use Rattle.types.specs.declared.variant.VariantState.{VariantState}
-use Rattle.types.specs.declared.variant.VariantAnswer.{VariantAnswer}
-use Rattle.types.specs.declared.variant.VariantAnswer.TheVariants as variant
+use Rattle.types.specs.declared.variant.VariantInfo.{VariantInfo}
+use Rattle.types.specs.declared.refusal.Refusal.{Refusal}
 use Rattle.types.specs.Leaves.{Rounding, Field, VariantAbi, record_answer}
-use Rattle.types.specs.Means.{rounded_means, count_means, bytes_of, discriminant_means, layout_means, layouts_means, extents_of, fitted_means, abi_means, info_answer_means, next_means, variant_means}
+use Rattle.types.specs.Means.{rounding_of, leaf, bytes_of, each, layouts_means, abi_means, field_means, variant_means}
 use Rattle.types.specs.States.{FieldState, record_means, CaseState, cases_means}
-use Rattle.types.proofs.Told.{told, refusal_of, refusal_back}
+use Rattle.types.proofs.Told.{Tells, told, leaf_told, count_from, count_back, count_told}
 use Rattle.types.proofs.refusal.Refusal.number.Reads as number-reads
 use Rattle.types.proofs.round.align_to.Reads as align-to-reads
 use Rattle.types.proofs.round.max.Reads as max-reads
@@ -55,14 +48,15 @@ use Rattle.types.proofs.extent.Extent.is_large.Reads as is-large-reads
 use Rattle.types.proofs.extent.Extent.member.Reads as member-reads
 use Rattle.types.proofs.extent.Extent.closing.Reads as closing-reads
 use Rattle.types.proofs.extent.Extent.close.Reads as close-reads
-use Rattle.types.proofs.both.Layouts.in_memory.Reads as in-memory-reads
-use Rattle.types.proofs.both.Layouts.is_good.Reads as layouts-good-reads
-use Rattle.types.proofs.both.Layouts.widest.Reads as layouts-widest-reads
-use Rattle.types.proofs.both.Layouts.repeat.Reads as layouts-repeat-reads
-use Rattle.types.proofs.both.Extents.member.Reads as extents-member-reads
-use Rattle.types.proofs.both.Extents.close.Reads as extents-close-reads
-use Rattle.types.proofs.both.Extents.variant.Reads as extents-variant-reads
-use Rattle.types.proofs.both.Extents.fitted.Reads as extents-fitted-reads
+use Rattle.types.proofs.both.Both.in_memory.Reads as in-memory-reads
+use Rattle.types.proofs.both.Both+Layout.is_good.Reads as layouts-good-reads
+use Rattle.types.proofs.both.Both+Layout.widest.Reads as layouts-widest-reads
+use Rattle.types.proofs.both.Both+Layout.repeat.Reads as layouts-repeat-reads
+use Rattle.types.proofs.both.Both+Extent.member.Reads as extents-member-reads
+use Rattle.types.proofs.both.Both+Extent.close.Reads as extents-close-reads
+use Rattle.types.proofs.both.Both+Extent.variant.Reads as extents-variant-reads
+use Rattle.types.proofs.both.Both+Extent.fitted.Reads as extents-fitted-reads
+use Rattle.types.proofs.both.Both+Step.extents.Reads as steps-extents-reads
 use Rattle.types.proofs.info.CanonicalAbiInfo.layouts.Reads as layouts-reads
 use Rattle.types.proofs.info.CanonicalAbiInfo.is_good.Reads as is-good-reads
 use Rattle.types.proofs.info.CanonicalAbiInfo.record.Reads as record-reads
@@ -80,14 +74,6 @@ use Rattle.types.proofs.variant.VariantState.payload.Reads as payload-reads
 use Rattle.types.proofs.variant.VariantInfo.new.Reads as variant-reads
 use Rattle.types.specs.contracts.info.CanonicalAbiInfo.record_static as record-static
 
-abbrev count_from : Option ℕ → FlatCount
-count_from none = None
-count_from (some n) = Count n
-
-count_back : (c : FlatCount) → count_from (count_means c) ≡ c
-count_back (Count n) = refl
-count_back None = refl
-
 abbrev size_of : ℕ → DiscriminantSize
 size_of n = cond (eqb n 1) Size1 (cond (eqb n 2) Size2 Size4)
 
@@ -96,11 +82,12 @@ size_back Size1 = refl
 size_back Size2 = refl
 size_back Size4 = refl
 
-abbrev layout_from : canon.Layout → Layout
-layout_from f = record { size = f.size; align = f.align }
-
-abbrev layouts_from : canon.Both canon.Layout → Layouts
-layouts_from b = record { in32 = layout_from b.in32; in64 = layout_from b.in64 }
+abbrev layouts_from : canon.Both canon.Layout → Both Layout
+layouts_from b =
+    record {
+      in32 = record { size = b.in32.size; align = b.in32.align };
+      in64 = record { size = b.in64.size; align = b.in64.align };
+    }
 
 abbrev pub info_from : Abi → CanonicalAbiInfo
 info_from a =
@@ -115,94 +102,52 @@ info_from a =
 pub info_back : (i : CanonicalAbiInfo) → info_from (abi_means i) ≡ i
 info_back i = rw (count_back i.flat_count)
 
--- each answer
+-- each meaning
 
-rounded_one : (r q : Rounded) → rounded_means r ≡ rounded_means q → r ≡ q
-rounded_one = told rounded_means from back
+size_told : Tells bytes_of
+size_told = told bytes_of size_of size_back
+
+rounding_told : Tells rounding_of
+rounding_told = told rounding_of from (λ r. refl)
   where
-    from : Leaf Rounding → Rounded
-    from (is u) = rounded.Value u.value u.skipped
-    from (no n) = rounded.Refused (refusal_of n)
+    from : Rounding → Rounded ℕ
+    from u = record { value = u.value; skipped = u.skipped }
 
-    back : (r : Rounded) → from (rounded_means r) ≡ r
-    back (rounded.Value v s) = refl
-    back (rounded.Refused r) = ap rounded.Refused (refusal_back r)
-
-count_one : (r q : FlatCount) → count_means r ≡ count_means q → r ≡ q
-count_one = told count_means count_from count_back
-
-discriminant_one : (r q : DiscriminantAnswer) → discriminant_means r ≡ discriminant_means q → r ≡ q
-discriminant_one = told discriminant_means from back
+each_told : {A : Type 0} → Tells (each {A = A})
+each_told {A} = told each from (λ b. refl)
   where
-    from : Leaf ℕ → DiscriminantAnswer
-    from (is n) = discriminant.Size (size_of n)
-    from (no n) = discriminant.Refused (refusal_of n)
+    from : canon.Both A → Both A
+    from b = record { in32 = b.in32; in64 = b.in64 }
 
-    back : (r : DiscriminantAnswer) → from (discriminant_means r) ≡ r
-    back (discriminant.Size s) = ap discriminant.Size (size_back s)
-    back (discriminant.Refused r) = ap discriminant.Refused (refusal_back r)
+layouts_told : Tells layouts_means
+layouts_told = told layouts_means layouts_from (λ b. refl)
 
-layout_one : (r q : Layout) → layout_means r ≡ layout_means q → r ≡ q
-layout_one = told layout_means layout_from (λ f. refl)
+pub info_told : Tells abi_means
+info_told = told abi_means info_from info_back
 
-layouts_one : (r q : Layouts) → layouts_means r ≡ layouts_means q → r ≡ q
-layouts_one = told layouts_means layouts_from (λ f. refl)
-
-fitted_one : (r q : Fitted) → fitted_means r ≡ fitted_means q → r ≡ q
-fitted_one = told fitted_means from back
+field_told : Tells field_means
+field_told = told field_means from (λ f. refl)
   where
-    from : Leaf (canon.Both canon.Layout) → Fitted
-    from (is b) = fitted.Layouts (layouts_from b)
-    from (no n) = fitted.TooLarge
+    from : Field → NextField
+    from f = record { offset = f.offset; end = f.end; skipped = f.skipped }
 
-    back : (r : Fitted) → from (fitted_means r) ≡ r
-    back (fitted.Layouts f) = refl
-    back fitted.TooLarge = refl
-
-info_one : (r q : InfoAnswer) → info_answer_means r ≡ info_answer_means q → r ≡ q
-info_one = told info_answer_means from back
+variant_told : Tells variant_means
+variant_told = told variant_means from back
   where
-    from : Leaf Abi → InfoAnswer
-    from (is a) = info.Info (info_from a)
-    from (no n) = info.Refused (refusal_of n)
+    from : VariantAbi → VariantInfo × CanonicalAbiInfo
+    from v = (record { size = size_of v.disc; payload_offset32 = v.offsets.in32; payload_offset64 = v.offsets.in64 }, info_from v.abi)
 
-    back : (r : InfoAnswer) → from (info_answer_means r) ≡ r
-    back (info.Info i) = ap info.Info (info_back i)
-    back (info.Refused r) = ap info.Refused (refusal_back r)
+    back : (x : VariantInfo × CanonicalAbiInfo) → from (variant_means x) ≡ x
+    back (v, i) = rw (size_back v.size, count_back i.flat_count)
 
-next_one : (r q : NextField) → next_means r ≡ next_means q → r ≡ q
-next_one = told next_means from back
-  where
-    from : Leaf Field → NextField
-    from (is f) = next.At f.offset f.end f.skipped
-    from (no n) = next.Refused (refusal_of n)
-
-    back : (r : NextField) → from (next_means r) ≡ r
-    back (next.At o e s) = refl
-    back (next.Refused r) = ap next.Refused (refusal_back r)
-
-variant_one : (r q : VariantAnswer) → variant_means r ≡ variant_means q → r ≡ q
-variant_one = told variant_means from back
-  where
-    from : Leaf VariantAbi → VariantAnswer
-    from (is v) =
-        variant.Variant
-        (record { size = size_of v.disc; payload_offset32 = v.offsets.in32; payload_offset64 = v.offsets.in64 })
-        (info_from v.abi)
-    from (no n) = variant.Refused (refusal_of n)
-
-    back : (r : VariantAnswer) → from (variant_means r) ≡ r
-    back (variant.Variant v i) = rw (size_back v.size, count_back i.flat_count)
-    back (variant.Refused r) = ap variant.Refused (refusal_back r)
-
-record_one : (r q : RecordState) → record_means r ≡ record_means q → r ≡ q
-record_one = told record_means from (λ s. rw (count_back s.flat))
+record_told : Tells record_means
+record_told = told record_means from (λ s. rw (count_back s.flat))
   where
     from : FieldState → RecordState
-    from f = record { extents = extents_of f.extents; flat = count_from f.flats; bad = f.bad }
+    from f = record { extents = record { in32 = f.extents.in32; in64 = f.extents.in64 }; flat = count_from f.flats; bad = f.bad }
 
-cases_one : (r q : VariantState) → cases_means r ≡ cases_means q → r ≡ q
-cases_one = told cases_means from (λ s. rw (count_back s.flat))
+cases_told : Tells cases_means
+cases_told = told cases_means from (λ s. rw (count_back s.flat))
   where
     from : CaseState → VariantState
     from f =
@@ -222,19 +167,19 @@ pub number_unique : Single (number-reads.Post tt)
 number_unique a r q g h = g ∙ sym h
 
 pub align_to_unique : Single (align-to-reads.Post tt)
-align_to_unique a r q g h = rounded_one r q (g ∙ sym h)
+align_to_unique a r q g h = leaf_told rounding_told r q (g ∙ sym h)
 
 pub max_unique : Single (max-reads.Post tt)
 max_unique a r q g h = g ∙ sym h
 
 pub add_flat_unique : Single (add-flat-reads.Post tt)
-add_flat_unique a r q g h = count_one r q (g ∙ sym h)
+add_flat_unique a r q g h = count_told r q (g ∙ sym h)
 
 pub max_flat_unique : Single (max-flat-reads.Post tt)
-max_flat_unique a r q g h = count_one r q (g ∙ sym h)
+max_flat_unique a r q g h = count_told r q (g ∙ sym h)
 
 pub from_count_unique : Single (from-count-reads.Post tt)
-from_count_unique a r q g h = discriminant_one r q (g ∙ sym h)
+from_count_unique a r q g h = leaf_told size_told r q (g ∙ sym h)
 
 pub byte_size_unique : Single (byte-size-reads.Post tt)
 byte_size_unique a r q g h = g ∙ sym h
@@ -251,29 +196,33 @@ closing_unique a r q g h = g ∙ sym h
 pub close_unique : Single (close-reads.Post tt)
 close_unique a r q g h = g ∙ sym h
 
-pub in_memory_unique : Single (in-memory-reads.Post tt)
-in_memory_unique a r q g h = layout_one r q (g ∙ sym h)
+pub in_memory_unique :
+    (T : RattleType) (L : Laws T) (C : IsCopy T) (G : Ghosts T.Denot) (D : Dict) (κs : Lfts 1) → Single (in-memory-reads.Post T L C G D κs)
+in_memory_unique T L C G D κs a r q g h = g ∙ sym h
 
 pub layouts_good_unique : Single (layouts-good-reads.Post tt)
 layouts_good_unique a r q g h = g ∙ sym h
 
 pub layouts_widest_unique : Single (layouts-widest-reads.Post tt)
-layouts_widest_unique a r q g h = layouts_one r q (g ∙ sym h)
+layouts_widest_unique a r q g h = layouts_told r q (g ∙ sym h)
 
 pub layouts_repeat_unique : Single (layouts-repeat-reads.Post tt)
-layouts_repeat_unique a r q g h = g ∙ sym h
+layouts_repeat_unique a r q g h = each_told r q (g ∙ sym h)
 
 pub extents_member_unique : Single (extents-member-reads.Post tt)
-extents_member_unique a r q g h = g ∙ sym h
+extents_member_unique a r q g h = each_told r q (g ∙ sym h)
 
 pub extents_close_unique : Single (extents-close-reads.Post tt)
-extents_close_unique a r q g h = g ∙ sym h
+extents_close_unique a r q g h = each_told r q (g ∙ sym h)
 
 pub extents_variant_unique : Single (extents-variant-reads.Post tt)
-extents_variant_unique a r q g h = g ∙ sym h
+extents_variant_unique a r q g h = each_told r q (g ∙ sym h)
 
 pub extents_fitted_unique : Single (extents-fitted-reads.Post tt)
-extents_fitted_unique a r q g h = fitted_one r q (g ∙ sym h)
+extents_fitted_unique a r q g h = leaf_told layouts_told r q (g ∙ sym h)
+
+pub steps_extents_unique : Single (steps-extents-reads.Post tt)
+steps_extents_unique a r q g h = each_told r q (g ∙ sym h)
 
 pub layouts_unique : Single (layouts-reads.Post tt)
 layouts_unique a r q g h = g ∙ sym h
@@ -282,56 +231,56 @@ pub is_good_unique : Single (is-good-reads.Post tt)
 is_good_unique a r q g h = g ∙ sym h
 
 pub record_unique : Single (record-reads.Post tt)
-record_unique a r q g h = info_one r q (g ∙ sym h)
+record_unique a r q g h = leaf_told info_told r q (g ∙ sym h)
 
 pub fixed_length_list_unique : Single (fixed-length-list-reads.Post tt)
-fixed_length_list_unique a r q g h = info_one r q (g ∙ sym h)
+fixed_length_list_unique a r q g h = leaf_told info_told r q (g ∙ sym h)
 
 pub next_field32_unique : Single (next-field32-reads.Post tt)
-next_field32_unique a r q g h = next_one r q (g ∙ sym h)
+next_field32_unique a r q g h = leaf_told field_told r q (g ∙ sym h)
 
 pub next_field64_unique : Single (next-field64-reads.Post tt)
-next_field64_unique a r q g h = next_one r q (g ∙ sym h)
+next_field64_unique a r q g h = leaf_told field_told r q (g ∙ sym h)
 
 pub flag_groups_unique : Single (flag-groups-reads.Post tt)
 flag_groups_unique a r q g h = g ∙ sym h
 
 pub flags_unique : Single (flags-reads.Post tt)
-flags_unique a r q g h = info_one r q (g ∙ sym h)
+flags_unique a r q g h = leaf_told info_told r q (g ∙ sym h)
 
 pub variant_info_unique : Single (variant-info-reads.Post tt)
-variant_info_unique a r q g h = info_one r q (g ∙ sym h)
+variant_info_unique a r q g h = leaf_told info_told r q (g ∙ sym h)
 
 pub enum_unique : Single (enum-reads.Post tt)
-enum_unique a r q g h = info_one r q (g ∙ sym h)
+enum_unique a r q g h = leaf_told info_told r q (g ∙ sym h)
 
 pub record_start_unique : Single (record-start-reads.Post tt)
-record_start_unique a r q g h = record_one r q (g ∙ sym h)
+record_start_unique a r q g h = record_told r q (g ∙ sym h)
 
 pub field_unique : Single (field-reads.Post tt)
-field_unique a r q g h = record_one r q (g ∙ sym h)
+field_unique a r q g h = record_told r q (g ∙ sym h)
 
 pub variant_start_unique : Single (variant-start-reads.Post tt)
-variant_start_unique a r q g h = cases_one r q (g ∙ sym h)
+variant_start_unique a r q g h = cases_told r q (g ∙ sym h)
 
 pub bare_unique : Single (bare-reads.Post tt)
-bare_unique a r q g h = cases_one r q (g ∙ sym h)
+bare_unique a r q g h = cases_told r q (g ∙ sym h)
 
 pub payload_unique : Single (payload-reads.Post tt)
-payload_unique a r q g h = cases_one r q (g ∙ sym h)
+payload_unique a r q g h = cases_told r q (g ∙ sym h)
 
 pub variant_unique : Single (variant-reads.Post tt)
-variant_unique a r q g h = variant_one r q (g ∙ sym h)
+variant_unique a r q g h = leaf_told variant_told r q (g ∙ sym h)
 
--- `record_static` is proved by hand and has no reading of its own: whatever entails its promise of two answers entails that they are one
+-- `record_static`, over the clauses of its contract: whatever entails its promise of two answers entails that they are one
 pub record_static_unique :
     {M : Type 1} {𝓤 : Ura M} (𝓛 : Logic 𝓤) (mem : Memory → SProp 𝓤) (run : Routine → Fun 𝓤) (P : SProp 𝓤) (κs : Lfts 1)
-    (fields : Bor (List CanonicalAbiInfo)) (end : AtExit record-static.ended κs) (r q : InfoAnswer) →
+    (fields : Bor (List CanonicalAbiInfo)) (end : AtExit record-static.ended κs) (r q : Result CanonicalAbiInfo Refusal) →
     ent 𝓤 P ((record-static.clauses 𝓛 mem run κs (fields, tt)).ensures tt r end) →
     ent 𝓤 P ((record-static.clauses 𝓛 mem run κs (fields, tt)).ensures tt q end) →
     ent 𝓤 P (fact 𝓤 (r ≡ q))
 record_static_unique {𝓤 = 𝓤} 𝓛 mem run P κs fields end r q g h =
-    fact_use 𝓤 (Said r) g (λ x. fact_use 𝓤 (Said q) h (λ y. fact_i 𝓤 (r ≡ q) P (info_one r q (x ∙ sym y))))
+    fact_use 𝓤 (Said r) g (λ x. fact_use 𝓤 (Said q) h (λ y. fact_i 𝓤 (r ≡ q) P (leaf_told info_told r q (x ∙ sym y))))
   where
-    Said : InfoAnswer → Type 0
-    Said a = info_answer_means a ≡ record_answer (map abi_means fields.now)
+    Said : Result CanonicalAbiInfo Refusal → Type 0
+    Said a = leaf abi_means a ≡ record_answer (map abi_means fields.now)

@@ -6,7 +6,7 @@ use Rattle.canon.specs.Layout.{Both, both, within, Layout, round_up, largest_num
 use Rattle.canon.specs.Placement.{four_gib}
 use Rattle.types.specs.declared.extent.Extent.{Extent}
 use Rattle.types.specs.declared.extent.Step.{Step}
-use Rattle.types.specs.declared.round.RoundedUp.{RoundedUp}
+use Rattle.types.specs.declared.round.Rounded.{Rounded}
 
 -- the unit of rounding: the greatest of 8, 4, 2 and 1 that divides the number. So an alignment is its own (proofs/RoundLaws)
 unfoldable pub unit_of : ℕ → ℕ
@@ -17,7 +17,7 @@ unfoldable pub rounded : ℕ → ℕ → ℕ
 rounded x a = round_up x (unit_of a)
 
 -- "the rounded value with the bytes it skipped"
-abbrev pub rounded_up : ℕ → ℕ → RoundedUp
+abbrev pub rounded_up : ℕ → ℕ → Rounded ℕ
 rounded_up x a = record { value = rounded x a; skipped = rounded x a - x }
 
 -- the extent of an exact end
@@ -28,7 +28,7 @@ abbrev pub start_extent : Extent
 start_extent = record { end = 0; align = 1 }
 
 -- a member at a rounded end, in an extent of the alignment a
-abbrev step_at : RoundedUp → ℕ → Layout → Step
+abbrev step_at : Rounded ℕ → ℕ → Layout → Step
 step_at up a f = record { start = up.value; skipped = up.skipped; extent = extent_at (up.value + f.size) (max a f.align) }
 
 -- one member more, wherever the extent ends
@@ -64,6 +64,13 @@ is_large x = ltb largest_number x.end
 
 abbrev pub layout_of : Extent → Layout
 layout_of x = record { size = x.end; align = x.align }
+
+-- a number, and the layout that a closed extent has come to, where they fit
+abbrev pub fitted_number : ℕ → Leaf ℕ
+fitted_number n = cond (ltb largest_number n) (no too_large) (is n)
+
+abbrev pub fitted_layout : Extent → Leaf Layout
+fitted_layout x = cond (is_large x) (no too_large) (is (layout_of x))
 
 -- what closed extents have come to. 01: "in either memory"
 unfoldable pub fitted_of : Both Extent → Leaf (Both Layout)

@@ -9,7 +9,7 @@ use Rattle.types.specs.declared.extent.Extent.{Extent}
 use Rattle.types.specs.declared.record.RecordState.{RecordState}
 use Rattle.types.specs.declared.variant.VariantState.{VariantState}
 use Rattle.types.specs.Leaves.{VariantAbi, given, discriminant_answer}
-use Rattle.types.specs.Means.{count_means, layouts_means, extents_means}
+use Rattle.types.specs.Means.{count_means, layouts_means, each}
 use Rattle.types.specs.Extents.{start_extent, member_of, close_of, widest, variant_step, fitted_of}
 
 -- the info of what ends so in the two memories
@@ -24,7 +24,7 @@ pub record FieldState : Type 0 where
   pub bad : Bool
 
 abbrev pub record_means : RecordState → FieldState
-record_means s = record { extents = extents_means s.extents; flats = count_means s.flat; bad = s.bad }
+record_means s = record { extents = each s.extents; flats = count_means s.flat; bad = s.bad }
 
 abbrev pub no_fields : FieldState
 no_fields = record { extents = both (λ m. start_extent); flats = some 0; bad = false }

@@ -2,11 +2,12 @@
 ghost use Rattle.std.specs.Prelude.{◌≡◌, ◌*◌, min};
 ghost use Rattle.canon.specs.Placement.{four_gib};
 ghost use Rattle.canon.specs.Row.{good_layout};
-ghost use Rattle.types.specs.Means.{layout_means, bytes_of};
-ghost use Rattle.types.specs.Extents.{extent_at, is_large, member_of, closing, close_of, variant_step, widest};
+ghost use Rattle.types.specs.Means.{leaf, layout_means, bytes_of};
+ghost use Rattle.types.specs.Extents.{extent_at, is_large, fitted_layout, member_of, closing, close_of, variant_step, widest};
 
 use crate::discriminant::DiscriminantSize;
-use crate::round::{LARGEST, is_alignment, max, round_up};
+use crate::refusal::Refusal;
+use crate::round::{LARGEST, fitting, is_alignment, round_up};
 
 #[derive(Clone, Copy)]
 pub struct Layout {
@@ -35,18 +36,15 @@ pub const FOUR_GIB: u64 = LARGEST + 1;
 fn stopped(end: u64) -> u64
     ensures { result ≡ min end four_gib }
 {
-    if end > FOUR_GIB { FOUR_GIB } else { end }
+    end.min(FOUR_GIB)
 }
 
 impl Layout {
+    #[tactic(auto, using(crate::proofs::RoundLaws::aligned), unfolding(canon::specs::Row::good_layout))]
     pub(crate) fn is_good(self) -> bool
         ensures { result ≡ good_layout (layout_means self) }
     {
-        if is_alignment(self.align) {
-            self.size & (self.align - 1) == 0
-        } else {
-            false
-        }
+        is_alignment(self.align) && self.size & (self.align - 1) == 0
     }
 
     // Gives what is as large and as aligned as either: the room for a variant's payloads.
@@ -54,18 +52,18 @@ impl Layout {
         ensures { layout_means result ≡ widest (layout_means self) (layout_means other) }
     {
         Layout {
-            size: max(self.size, other.size),
-            align: max(self.align, other.align),
+            size: self.size.max(other.size),
+            align: self.align.max(other.align),
         }
     }
 
     // Puts `count` of them one after another.
+    #[tactic(auto, unfolding(crate::specs::Extents::extent_at))]
     pub(crate) fn repeat(self, count: u32) -> Extent
         ensures { result ≡ extent_at (self.size * count) self.align }
     {
-        let end = self.size as u64 * count as u64;
         Extent {
-            end: stopped(end),
+            end: stopped(u64::from(self.size) * u64::from(count)),
             align: self.align,
         }
     }
@@ -80,23 +78,35 @@ impl Extent {
         self.end > LARGEST
     }
 
+    // Refuses TooLarge, as for a number.
+    pub(crate) fn fitted(self) -> Result<Layout, Refusal>
+        ensures { leaf layout_means result ≡ fitted_layout self }
+    {
+        Ok(Layout {
+            size: fitting(self.end)?,
+            align: self.align,
+        })
+    }
+
     // An end that no step gave may be any number, so it is stopped here too.
+    #[tactic(auto, using(crate::proofs::RoundLaws::rounded_between), unfolding(crate::specs::Extents::member_of, crate::specs::Extents::extent_at))]
     pub fn member(self, member: Layout) -> Step
         ensures { result ≡ member_of self (layout_means member) }
     {
         let up = round_up(stopped(self.end), member.align);
-        let end = up.value + member.size as u64;
+        let end = up.value + u64::from(member.size);
         Step {
             start: up.value,
             skipped: up.skipped,
             extent: Extent {
                 end: stopped(end),
-                align: max(self.align, member.align),
+                align: self.align.max(member.align),
             },
         }
     }
 
     // A member of no size moves the end on to the size, and skips the bytes after the last.
+    #[tactic(auto, unfolding(crate::specs::Extents::closing))]
     pub fn closing(self) -> Step
         ensures { result ≡ closing self }
     {
@@ -110,29 +120,27 @@ impl Extent {
     pub fn close(self) -> Extent
         ensures { result ≡ close_of self }
     {
-        let step = self.closing();
-        step.extent
+        self.closing().extent
     }
 
     // Places a discriminant, and room for the payloads at the next place where the whole may be aligned.
+    #[tactic(auto, unfolding(crate::specs::Extents::variant_step))]
     pub(crate) fn variant(size: DiscriminantSize, payload: Layout) -> Step
         ensures { result ≡ variant_step (bytes_of size) (layout_means payload) }
     {
         let bytes = size.byte_size();
-        let align = max(bytes, payload.align);
+        let align = bytes.max(payload.align);
         let discriminant = Extent {
-            end: bytes as u64,
+            end: u64::from(bytes),
             align,
         };
         let step = discriminant.member(Layout {
             size: payload.size,
             align,
         });
-        let extent = step.extent;
         Step {
-            start: step.start,
-            skipped: step.skipped,
-            extent: extent.close(),
+            extent: step.extent.close(),
+            ..step
         }
     }
 }

@@ -10,70 +10,43 @@ pub const MAX_FLAT_TYPES: u32 = 16;
 // 01: "flat count, 255 for none".
 pub const NO_FLAT_COUNT: u32 = 255;
 
-#[derive(Clone, Copy)]
-pub enum FlatCount {
-    Count(u8),
-    None,
-}
-
-impl FlatCount {
-    pub(crate) fn is_good(self) -> bool
-        ensures { result ≡ good_count (count_means self) }
-    {
-        match self {
-            FlatCount::Count(n) => n as u32 <= MAX_FLAT_TYPES,
-            FlatCount::None => true,
-        }
-    }
+// Tells whether a row may hold this count.
+#[tactic(auto, unfolding(canon::specs::Row::good_count))]
+pub(crate) fn is_good_count(count: Option<u8>) -> bool
+    ensures { result ≡ good_count (count_means count) }
+{
+    count.is_none_or(|n| u32::from(n) <= MAX_FLAT_TYPES)
 }
 
 // Caps a sum or a product.
-fn cap(n: u64) -> FlatCount
+fn cap(n: u64) -> Option<u8>
     ensures { count_means result ≡ capped n }
 {
-    if n <= MAX_FLAT_TYPES as u64 {
-        FlatCount::Count(n as u8)
+    if n <= u64::from(MAX_FLAT_TYPES) {
+        Some(n as u8)
     } else {
-        FlatCount::None
+        None
     }
 }
 
-pub fn add_flat(a: FlatCount, b: FlatCount) -> FlatCount
+#[tactic(auto, unfolding(canon::specs::Flat::add_flat))]
+pub fn add_flat(a: Option<u8>, b: Option<u8>) -> Option<u8>
     ensures { count_means result ≡ add_flat (count_means a) (count_means b) }
 {
-    match a {
-        FlatCount::Count(m) => match b {
-            FlatCount::Count(n) => cap(m as u64 + n as u64),
-            FlatCount::None => FlatCount::None,
-        },
-        FlatCount::None => FlatCount::None,
-    }
+    cap(u64::from(a?) + u64::from(b?))
 }
 
-pub fn max_flat(a: FlatCount, b: FlatCount) -> FlatCount
+#[tactic(auto, unfolding(canon::specs::Flat::max_flat))]
+pub fn max_flat(a: Option<u8>, b: Option<u8>) -> Option<u8>
     ensures { count_means result ≡ max_flat (count_means a) (count_means b) }
 {
-    match a {
-        FlatCount::Count(m) => match b {
-            FlatCount::Count(n) => {
-                if m > n {
-                    FlatCount::Count(m)
-                } else {
-                    FlatCount::Count(n)
-                }
-            }
-            FlatCount::None => FlatCount::None,
-        },
-        FlatCount::None => FlatCount::None,
-    }
+    Some(a?.max(b?))
 }
 
 // Counts `times` elements.
-pub(crate) fn times_flat(a: FlatCount, times: u32) -> FlatCount
+#[tactic(auto, unfolding(canon::specs::Flat::times_flat))]
+pub(crate) fn times_flat(a: Option<u8>, times: u32) -> Option<u8>
     ensures { count_means result ≡ times_flat (count_means a) times }
 {
-    match a {
-        FlatCount::Count(m) => cap(m as u64 * times as u64),
-        FlatCount::None => FlatCount::None,
-    }
+    cap(u64::from(a?) * u64::from(times))
 }

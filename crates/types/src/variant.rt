@@ -2,22 +2,24 @@
 ghost use Rattle.std.specs.Prelude.{◌≡◌};
 ghost use Rattle.std.proofs.Math.Option.{none, some};
 ghost use Rattle.types.specs.Leaves.{info_alone};
-ghost use Rattle.types.specs.Means.{bytes_of, abi_means, info_answer_means, variant_means};
+ghost use Rattle.types.specs.Means.{leaf, bytes_of, abi_means, variant_means};
 ghost use Rattle.types.specs.States.{cases_means, one_more, no_cases, add_case, sized_cases, close_cases};
 
-use crate::both::{Extents, Fitted, Layouts};
-use crate::discriminant::{DiscriminantAnswer, DiscriminantSize};
-use crate::flat::{FlatCount, add_flat, max_flat};
-use crate::info::{CanonicalAbiInfo, InfoAnswer};
+use crate::both::Both;
+use crate::discriminant::DiscriminantSize;
+use crate::extent::{Extent, Layout};
+use crate::flat::{add_flat, max_flat};
+use crate::info::CanonicalAbiInfo;
 use crate::refusal::Refusal;
 
 // This is the first number of cases whose discriminant takes four bytes; a count above it tells nothing more.
 const ENOUGH: u32 = 65537;
 
+// The flag is no Option of the rest, as in a RecordState.
 #[derive(Clone, Copy)]
 pub struct VariantState {
-    layouts: Layouts,
-    flat: FlatCount,
+    layouts: Both<Layout>,
+    flat: Option<u8>,
     count: u32,
     bad: bool,
 }
@@ -29,16 +31,10 @@ pub struct VariantInfo {
     pub payload_offset64: u32,
 }
 
-#[derive(Clone, Copy)]
-pub enum VariantAnswer {
-    Variant(VariantInfo, CanonicalAbiInfo),
-    Refused(Refusal),
-}
-
 fn one_more(count: u32) -> u32
     ensures { result ≡ one_more count }
 {
-    if count < ENOUGH { count + 1 } else { ENOUGH }
+    count.saturating_add(1).min(ENOUGH)
 }
 
 impl VariantState {
@@ -46,37 +42,32 @@ impl VariantState {
         ensures { cases_means result ≡ no_cases }
     {
         VariantState {
-            layouts: Layouts::EMPTY,
-            flat: FlatCount::Count(0),
+            layouts: Both::<Layout>::EMPTY,
+            flat: Some(0),
             count: 0,
             bad: false,
         }
     }
 
     // Adds a case without a payload.
+    #[tactic(auto, unfolding(crate::specs::States::add_case))]
     pub fn bare(self) -> VariantState
         ensures { cases_means result ≡ add_case (cases_means self) none }
     {
-        let layouts = self.layouts;
-        let flat = self.flat;
         VariantState {
-            layouts,
-            flat,
             count: one_more(self.count),
-            bad: self.bad,
+            ..self
         }
     }
 
     // Adds a case that holds what the info is of.
+    #[tactic(auto, unfolding(crate::specs::States::add_case))]
     pub fn payload(self, info: CanonicalAbiInfo) -> VariantState
         ensures { cases_means result ≡ add_case (cases_means self) (some (abi_means info)) }
     {
-        let layouts = self.layouts;
-        let flat = self.flat;
-        let count = info.flat_count;
         VariantState {
-            layouts: layouts.widest(info.layouts()),
-            flat: max_flat(flat, count),
+            layouts: self.layouts.widest(info.layouts()),
+            flat: max_flat(self.flat, info.flat_count),
             count: one_more(self.count),
             bad: self.bad | !info.is_good(),
         }
@@ -85,50 +76,44 @@ impl VariantState {
 
 impl VariantInfo {
     // Refuses BadRow if any info was bad, then BadCount for no case, then TooLarge in either memory.
-    pub fn new(cases: VariantState) -> VariantAnswer
-        ensures { variant_means result ≡ close_cases (cases_means cases) }
+    #[tactic(auto, unfolding(crate::specs::States::close_cases, crate::specs::Leaves::given, canon::specs::Answer::and_then))]
+    pub fn new(cases: VariantState) -> Result<(VariantInfo, CanonicalAbiInfo), Refusal>
+        ensures { leaf variant_means result ≡ close_cases (cases_means cases) }
     {
         if cases.bad {
-            return VariantAnswer::Refused(Refusal::BadRow);
+            return Err(Refusal::BadRow);
         }
-        match DiscriminantSize::from_count(cases.count) {
-            DiscriminantAnswer::Size(size) => VariantInfo::sized(size, cases),
-            DiscriminantAnswer::Refused(why) => VariantAnswer::Refused(why),
-        }
+        VariantInfo::sized(DiscriminantSize::from_count(cases.count)?, cases)
     }
 
     // Makes the variant whose discriminant has this size.
-    fn sized(size: DiscriminantSize, cases: VariantState) -> VariantAnswer
-        ensures { variant_means result ≡ sized_cases (bytes_of size) (cases_means cases) }
+    #[tactic(auto, using(crate::proofs::VariantLaws::variant_fits), unfolding(crate::specs::States::sized_cases, canon::specs::Answer::and_then))]
+    fn sized(
+        size: DiscriminantSize,
+        cases: VariantState,
+    ) -> Result<(VariantInfo, CanonicalAbiInfo), Refusal>
+        ensures { leaf variant_means result ≡ sized_cases (bytes_of size) (cases_means cases) }
     {
-        let layouts = cases.layouts;
-        let flat = cases.flat;
-        let steps = Extents::variant(size, layouts);
-        let extents = steps.extents;
-        match extents.fitted() {
-            Fitted::Layouts(whole) => {
-                let variant = VariantInfo {
-                    size,
-                    payload_offset32: steps.start32 as u32,
-                    payload_offset64: steps.start64 as u32,
-                };
-                // The discriminant is one core type more.
-                let count = add_flat(FlatCount::Count(1), flat);
-                VariantAnswer::Variant(variant, CanonicalAbiInfo::of(whole, count))
-            }
-            Fitted::TooLarge => VariantAnswer::Refused(Refusal::TooLarge),
-        }
+        let steps = Both::<Extent>::variant(size, cases.layouts);
+        let whole = steps.extents().fitted()?;
+        let variant = VariantInfo {
+            size,
+            payload_offset32: steps.in32.start as u32,
+            payload_offset64: steps.in64.start as u32,
+        };
+        // The discriminant is one core type more.
+        let count = add_flat(Some(1), cases.flat);
+        Ok((variant, CanonicalAbiInfo::of(whole, count)))
     }
 }
 
 impl CanonicalAbiInfo {
     // Refuses as `VariantInfo::new` does.
-    pub fn variant(cases: VariantState) -> InfoAnswer
-        ensures { info_answer_means result ≡ info_alone (close_cases (cases_means cases)) }
+    #[tactic(auto, unfolding(crate::specs::Leaves::info_alone))]
+    pub fn variant(cases: VariantState) -> Result<CanonicalAbiInfo, Refusal>
+        ensures { leaf abi_means result ≡ info_alone (close_cases (cases_means cases)) }
     {
-        match VariantInfo::new(cases) {
-            VariantAnswer::Variant(_, info) => InfoAnswer::Info(info),
-            VariantAnswer::Refused(why) => InfoAnswer::Refused(why),
-        }
+        let (_, info) = VariantInfo::new(cases)?;
+        Ok(info)
     }
 }

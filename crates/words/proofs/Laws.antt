@@ -1,6 +1,6 @@
 -- Laws of the words in bytes: what is read back after words are put, and what is kept.
 use mathlib.Core.Path.{◌≡◌, refl, sym, ap, ap₂, ◌∙◌}
-use mathlib.Core.List.{List, [], ◌∷◌, ◌++◌, map, append-nil}
+use mathlib.Core.List.{List, [], ◌∷◌, ◌++◌, map, append-nil, append_assoc}
 use Prim.Native.Nat.{ℕ, zero, suc, ◌+◌, ◌*◌, ◌/◌, ◌%◌, ◌-◌, ◌^◌, ◌≤◌, ◌<◌, min}
 use native.Mathlib.Decide.{ℕ_discrete, dec_le}
 use native.Mathlib.Nat.{add-zero, add-suc, suc-add, zero-add, add_comm, mul_comm, mod-eq_of_lt}
@@ -18,6 +18,7 @@ use lib.Seq.{
   get_or-take,
   get_or-drop,
   drop_at,
+  drop-drop,
   set-get_or,
   set_out,
   set-append_left,
@@ -29,6 +30,9 @@ use lib.Seq.{
   sets,
   sets-eq,
 }
+use Rattle.std.specs.Int.{w32, from_le_bytes, to_le_bytes}
+use borrow.Rule.Slice.PartMut.{put_mid}
+use Rattle.std.specs.Simd.{first_chunks}
 use Rattle.words.specs.Words.{word_at, words_of, whole_words, put_word, put_words}
 
 -- Reading
@@ -65,6 +69,22 @@ whole_small b bytes i =
       | no h ↦ omega (arith, whole_at b i (omega arith), bytes (4 * i), bytes (4 * i + 1), bytes (4 * i + 2), bytes (4 * i + 3))
     ]
 
+-- the chunk k of four bytes is the word k
+chunk_at : (k n : ℕ) (b : List ℕ) → k < n → get_or (first_chunks 4 n b) k [] ≡ take 4 (drop (4 * k) b)
+chunk_at k zero b h = elim h [ ]
+chunk_at zero (suc n) b h = refl
+chunk_at (suc k) (suc n) b h = chunk_at k n (drop 4 b) (omega arith) ∙ ap (take 4) (drop-drop (4 * k) 4 b ∙ ap (λ (i : ℕ). drop i b) (omega arith))
+
+pub chunk_word :
+    (b : List ℕ) (k : ℕ) (c : List ℕ) {cs : List (List ℕ)} → cs ≡ first_chunks 4 (length b / 4) b → k < length b / 4 → c ≡ get_or cs k [] →
+    from_le_bytes w32 c ≡ get_or (whole_words b) k 0
+unfolding word_at
+chunk_word b k c e h f =
+    rw (f, e, whole_at b k h, chunk_at k (length b / 4) b h, byte 0 (omega arith), byte 1 (omega arith), byte 2 (omega arith), byte 3 (omega arith), add-zero (4 * k)) (omega arith)
+  where
+    byte : (i : ℕ) → i < 4 → get_or (take 4 (drop (4 * k) b)) i 0 ≡ get_or b (4 * k + i) 0
+    byte i l = get_or-take 4 (drop (4 * k) b) i 0 l ∙ get_or-drop (4 * k) b i 0
+
 -- the words of the first bytes
 pub whole_take : (n : ℕ) (b : List ℕ) → whole_words (take (4 * n) b) ≡ take n (whole_words b)
 unfolding word_at
@@ -82,12 +102,12 @@ whole_take n b =
 
 -- a turn of the reading loop
 pub read_turn :
-    (b w : List ℕ) {u : List ℕ} {k v : ℕ} → k < length b / 4 → k < length w → u ≡ take k (whole_words b) ++ drop k w → v ≡ word_at b k →
+    (b w : List ℕ) {u : List ℕ} {k v : ℕ} → k < length b / 4 → k < length w → u ≡ take k (whole_words b) ++ drop k w → v ≡ get_or (whole_words b) k 0 →
     set u k v ≡ take (k + 1) (whole_words b) ++ drop (k + 1) w
 read_turn b w {u} {k} {v} h l e f =
     let all = whole_words b in
     let n : k < length all = omega (arith, length_whole b) in
-    rw (e, f, ← whole_at b k h, add-one k, take-suc all k 0 n, drop-cons w k 0 l)
+    rw (e, f, add-one k, take-suc all k 0 n, drop-cons w k 0 l)
     (set_at (take k all) (get_or w k 0) (drop (suc k) w) (get_or all k 0) k (length-take-le k all (omega arith))
     ∙ sym (append_snoc (take k all) (get_or all k 0) (drop (suc k) w)))
 
@@ -113,6 +133,16 @@ front_read b w u n e f =
 pub length_put : (k w : ℕ) (b : List ℕ) → length (put_word k w b) ≡ length b
 unfolding put_word
 length_put k w b = simp length-set
+
+-- four bytes stored at once are stored one after the other
+pub put_bytes : (k w : ℕ) (b : List ℕ) {n : ℕ} {ys : List ℕ} → 4 * k + 4 ≤ length b → n ≡ 4 → ys ≡ to_le_bytes w32 w → put_mid (4 * k) n b ys ≡ put_word k w b
+unfolding put_word
+put_bytes k w b h e f =
+    let one : suc (4 * k) ≡ 4 * k + 1 = omega arith in
+    let two : suc (suc (4 * k)) ≡ 4 * k + 2 = omega arith in
+    let three : suc (suc (suc (4 * k))) ≡ 4 * k + 3 = omega arith in
+    let bytes = to_le_bytes w32 w in
+    rw (e, f, drop-drop 4 (4 * k) b, ← one, ← two, ← three) (sym (sets-eq bytes b (4 * k) h ∙ append_assoc (take (4 * k) b) bytes (drop (4 * k + 4) b)))
 
 pub length_puts : (k : ℕ) (ws b : List ℕ) → length (put_words k ws b) ≡ length b
 unfolding put_words

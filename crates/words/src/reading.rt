@@ -1,42 +1,23 @@
 // Reads the words that bytes hold.
-ghost use Rattle.std.specs.Prelude.{◌≡◌, ◌++◌, ◌+◌, ◌*◌, ◌/◌, ◌≤◌, min, length, get_or, take, drop};
-ghost use Rattle.words.specs.Words.{word_of, word_at, whole_words};
-
-fn wide(x: u8) -> u32
-    ensures { (result ≡ x) × (result ≤ 255) }
-{
-    x as u32
-}
+ghost use Rattle.std.specs.Prelude.{◌≡◌, ◌++◌, ◌/◌, min, length, get_or, take, drop};
+ghost use Rattle.words.specs.Words.{word_of, whole_words};
 
 // Makes a word of four bytes, the lowest first.
 pub fn from_le_bytes(a: u8, b: u8, c: u8, d: u8) -> u32
     ensures { result ≡ word_of a b c d }
 {
-    wide(a) + 256 * wide(b) + 65536 * wide(c) + 16777216 * wide(d)
-}
-
-fn four_bytes(bytes: &[u8], k: usize) -> u32
-    requires { 4 * k + 4 ≤ length bytes.now }
-    ensures { result ≡ word_at bytes.now k }
-{
-    let at = 4 * k;
-    from_le_bytes(bytes[at], bytes[at + 1], bytes[at + 2], bytes[at + 3])
-}
-
-pub(crate) fn min(a: usize, b: usize) -> usize
-    ensures { result ≡ min a b }
-{
-    if a < b { a } else { b }
+    u32::from_le_bytes([a, b, c, d])
 }
 
 // Answers the word k of the bytes, 0 where there is no whole word.
+#[tactic(auto, using(crate::proofs::Laws::chunk_word, crate::proofs::Laws::whole_past))]
 pub fn word_at(bytes: &[u8], k: usize) -> u32
     ensures { result ≡ get_or (whole_words bytes.now) k 0 }
 {
-    if k < bytes.len() / 4 {
-        four_bytes(bytes, k)
-    } else {
-        0
+    let (chunks, _) = bytes.as_chunks::<4>();
+    match chunks.get(k) {
+        Some(chunk) => u32::from_le_bytes(*chunk),
+        None => 0,
     }
 }
 
@@ -44,11 +25,11 @@ pub fn word_at(bytes: &[u8], k: usize) -> u32
 pub fn words_of(bytes: &[u8], words: &mut [u32]) -> usize
     ensures { (result ≡ min (length bytes.now / 4) (length words.old)) × (words.new ≡ take result (whole_words bytes.now) ++ drop result words.old) }
 {
-    let n = min(bytes.len() / 4, words.len());
-    let mut k: usize = 0;
-    while k < n {
-        words[k] = four_bytes(bytes, k);
-        k += 1;
+    let (chunks, _) = bytes.as_chunks::<4>();
+    let n = chunks.len().min(words.len());
+    // A word is stored by its index: of what is written through a zipped `iter_mut` the library's contracts tell nothing afterwards.
+    for (k, chunk) in chunks[..n].iter().enumerate() {
+        words[k] = u32::from_le_bytes(*chunk);
     }
     n
 }

@@ -1,9 +1,13 @@
--- There are no more entries than words; the measure is what is left of the list.
-use Rattle.std.proofs.Common.{length, ◌-◌, ◌+◌, ◌≤◌}
+-- There are no more entries than words; each is taken off the list.
+use Rattle.std.proofs.Common.{length, ◌+◌, ◌≤◌}
 use Rattle.replay.proofs.replay.Given as goal
 
-abbrev pub invariant-loop-at : goal.invariant-loop-at
-invariant-loop-at l = (l.entries ≤ l.at) × (l.compared ≤ l.at) × (l.different ≤ l.at) × (l.at ≤ length l.words + 2)
+abbrev pub invariant-loop-list : goal.invariant-loop-list
+invariant-loop-list l = record {
+  entries : l.entries + length l.list ≤ length l.words;
+  compared : l.tally.compared ≤ l.entries;
+  different : l.tally.different ≤ l.entries;
+}
 
-abbrev pub decreases-loop-at : goal.decreases-loop-at
-decreases-loop-at l = length l.words - l.at
+abbrev pub decreases-loop-list : goal.decreases-loop-list
+decreases-loop-list l = length l.list

@@ -1,107 +1,132 @@
--- Arm by arm; a body lies within the description, and its references are those from `first` to before `end`.
-use mathlib.Core.Path.{◌∙◌}
-use native.Mathlib.Nat.{add-zero}
-use native.Mathlib.Omega.{arith}
+-- Arm by arm: what the arm's call gives is the row of the kind, and its references are those of the heading.
+use mathlib.Core.Path.{sym, ◌∙◌}
+use lib.ListN.{get_or}
+use Rattle.std.proofs.lemmas.Result.{err_from_is_err_and}
 use Rattle.canon.specs.Cost.{rows_among}
-use Rattle.build.specs.Kinds.{row_of_kind}
-use Rattle.build.specs.Steps.{member_look}
-use Rattle.build.proofs.Arms.{members_arm, cases_arm}
-use Rattle.build.proofs.Folding.{none_between, one_between, two_between}
-use Rattle.build.proofs.Wording.{if_row_holds}
+use Rattle.head.specs.Heads.{between}
+use Rattle.head.specs.Means.{heading_means}
+use Rattle.build.specs.Kinds.{list_row, option_row, fixed_row, row_of_kind}
+use Rattle.build.specs.Means.{look_in}
+use Rattle.build.proofs.Arms.{members_arm, cases_arm, stopped, reference_count, no_word, one_word, two_words}
+use Rattle.build.proofs.Wording.{then_is}
 use Rattle.build.proofs.define.kind_row.Goals as goal
 
-pub list_row-requires : goal.list_row-requires
-list_row-requires c =
-    let s = c.requires.0 in (
-      omega (arith, rw c.in-List.is at s.references, rw c.in-List.is at s.numbers, s.inside),
-      c.requires.2,
-    )
+pub returns-in-Record-clause-value : goal.returns-in-Record-clause-value
+unfolding between
+returns-in-Record-clause-value c =
+    let a = c.args in
+    c.members_row.ensures.value ∙ members_arm (look_in a.earlier) a.heading.count _ (get_or a.words.now a.heading.end 0) a.heading.kind c.in-Record.is
 
-pub map_row-requires : goal.map_row-requires
-map_row-requires c =
-    let s = c.requires.0 in (
-      omega (arith, rw c.in-Map.is at s.references, rw c.in-Map.is at s.numbers, s.inside),
-      c.requires.2,
-    )
+pub returns-in-Record-clause-reads : goal.returns-in-Record-clause-reads
+unfolding between
+returns-in-Record-clause-reads c =
+    c.members_row.ensures.reads
 
-pub option_row-requires : goal.option_row-requires
-option_row-requires c =
-    let s = c.requires.0 in (
-      omega (arith, rw c.in-Option.is at s.references, rw c.in-Option.is at s.numbers, s.inside),
-      c.requires.2,
-    )
+pub returns-in-Variant-clause-value : goal.returns-in-Variant-clause-value
+unfolding between
+returns-in-Variant-clause-value c =
+    let a = c.args in
+    c.variant_row.ensures.value ∙ cases_arm (look_in a.earlier) a.heading.count _ (get_or a.words.now a.heading.end 0) a.heading.kind c.in-Variant.is
 
-pub fixed_row-requires : goal.fixed_row-requires
-fixed_row-requires c =
-    let s = c.requires.0 in (
-      omega (arith, rw c.in-FixedLengthList.is at s.references, rw c.in-FixedLengthList.is at s.numbers, s.inside),
-      c.requires.2,
-    )
+pub returns-in-Variant-clause-reads : goal.returns-in-Variant-clause-reads
+unfolding between
+returns-in-Variant-clause-reads c =
+    c.variant_row.ensures.reads
 
-pub returns-in-Record : goal.returns-in-Record
-returns-in-Record c = let a = c.args in record {
-  rowed_value = rw c.kind_word.ensures at c.members_row.ensures.rowed_value
-      ∙ members_arm (member_look a.table.now a.index.0) a.words.now a.heading.count a.heading.first a.heading.end a.heading.kind c.in-Record.is;
-  made_reads = c.members_row.ensures.made_reads;
-}
+pub returns-in-Map-clause-value : goal.returns-in-Map-clause-value
+unfolding row_of_kind between
+returns-in-Map-clause-value c =
+    rw c.in-Map.is c.map_row.ensures.value
 
-pub returns-in-Variant : goal.returns-in-Variant
-returns-in-Variant c = let a = c.args in record {
-  rowed_value = rw c.kind_word-in-Variant.ensures at c.variant_row.ensures.rowed_value
-      ∙ cases_arm (member_look a.table.now a.index.0) a.words.now a.heading.count a.heading.first a.heading.end a.heading.kind c.in-Variant.is;
-  made_reads = c.variant_row.ensures.made_reads;
-}
+pub returns-in-Map-clause-reads : goal.returns-in-Map-clause-reads
+unfolding between
+returns-in-Map-clause-reads c =
+    rw (← (two_words _ (rw c.in-Map.is at (reference_count c.args.words.now (heading_means c.args.heading) c.requires.0)))) c.map_row.ensures.reads
 
-pub returns-in-List : goal.returns-in-List
+pub returns-in_err-member-in-List-clause-value : goal.returns-in_err-member-in-List-clause-value
+unfolding row_of_kind between
+returns-in_err-member-in-List-clause-value c =
+    let p = err_from_is_err_and c.from_residual.result c.from_residual.ensures.1 in
+    rw (p.1, p.2, c.in-List.is) (stopped _ list_row c.in_err-member-in-List.ensures.value)
+
+pub returns-in_ok-member-in-List-clause-value : goal.returns-in_ok-member-in-List-clause-value
+unfolding row_of_kind between
+returns-in_ok-member-in-List-clause-value c =
+    rw c.in-List.is (c.and_then.ensures.made ∙ sym (then_is _ _ list_row (sym c.in_ok-member-in-List.ensures.value)))
+
+pub returns-in_ok-member-in-List-clause-reads : goal.returns-in_ok-member-in-List-clause-reads
+unfolding between
+returns-in_ok-member-in-List-clause-reads c =
+    rw (← (one_word _ (rw c.in-List.is at (reference_count c.args.words.now (heading_means c.args.heading) c.requires.0))), ← c.in_ok-member-in-List.ensures.reads) c.and_then.ensures.reads
+
+pub returns-in_err-member-in-Option-clause-value : goal.returns-in_err-member-in-Option-clause-value
+unfolding row_of_kind between
+returns-in_err-member-in-Option-clause-value c =
+    let p = err_from_is_err_and c.from_residual-in_err-member-in-Option.result c.from_residual-in_err-member-in-Option.ensures.1 in
+    rw (p.1, p.2, c.in-Option.is) (stopped _ option_row c.in_err-member-in-Option.ensures.value)
+
+pub returns-in_ok-member-in-Option-clause-value : goal.returns-in_ok-member-in-Option-clause-value
+unfolding row_of_kind between
+returns-in_ok-member-in-Option-clause-value c =
+    rw c.in-Option.is (c.and_then-in-Option.ensures.made ∙ sym (then_is _ _ option_row (sym c.in_ok-member-in-Option.ensures.value)))
+
+pub returns-in_ok-member-in-Option-clause-reads : goal.returns-in_ok-member-in-Option-clause-reads
+unfolding between
+returns-in_ok-member-in-Option-clause-reads c =
+    rw (← (one_word _ (rw c.in-Option.is at (reference_count c.args.words.now (heading_means c.args.heading) c.requires.0))), ← c.in_ok-member-in-Option.ensures.reads) c.and_then-in-Option.ensures.reads
+
+pub returns-in_err-flags_row-in-Flags-clause-value : goal.returns-in_err-flags_row-in-Flags-clause-value
 unfolding row_of_kind
-returns-in-List c = let a = c.args in
-    let s = c.requires.0 in
-    let told = c.in-List.is in record {
-      rowed_value = rw told c.list_row.ensures.rowed_value;
-      made_reads = rw (one_between a.words.now a.heading.first a.heading.end (rw told at s.references) (omega (arith, rw told at s.references, rw told at s.numbers, s.inside))) c.list_row.ensures.made_reads;
-    }
+returns-in_err-flags_row-in-Flags-clause-value c =
+    let p = err_from_is_err_and c.from_residual-in_err-flags_row-in-Flags.result c.from_residual-in_err-flags_row-in-Flags.ensures.1 in
+    rw (p.1, p.2, c.in-Flags.is) c.in_err-flags_row-in-Flags.ensures
 
-pub returns-in-Map : goal.returns-in-Map
+pub returns-in_ok-flags_row-in-Flags-clause-value : goal.returns-in_ok-flags_row-in-Flags-clause-value
 unfolding row_of_kind
-returns-in-Map c = let a = c.args in
-    let s = c.requires.0 in
-    let told = c.in-Map.is in record {
-      rowed_value = rw told c.map_row.ensures.rowed_value;
-      made_reads = rw (two_between a.words.now a.heading.first a.heading.end (rw told at s.references) (omega (arith, rw told at s.references, rw told at s.numbers, s.inside))) c.map_row.ensures.made_reads;
-    }
+returns-in_ok-flags_row-in-Flags-clause-value c =
+    rw (c.unread.ensures, c.in-Flags.is) c.in_ok-flags_row-in-Flags.ensures
 
-pub returns-in-Flags : goal.returns-in-Flags
-unfolding row_of_kind rows_among
-returns-in-Flags c = let a = c.args in
-    let s = c.requires.0 in
-    let told = c.in-Flags.is in record {
-      rowed_value = rw told c.flags_row.ensures;
-      made_reads = if_row_holds c.flags_row.result (rw (none_between a.words.now a.heading.first a.heading.end (rw told at s.references ∙ add-zero a.heading.first)));
-    }
+pub returns-in_ok-flags_row-in-Flags-clause-reads : goal.returns-in_ok-flags_row-in-Flags-clause-reads
+unfolding rows_among
+returns-in_ok-flags_row-in-Flags-clause-reads c =
+    rw (← (no_word _ (rw c.in-Flags.is at (reference_count c.args.words.now (heading_means c.args.heading) c.requires.0))), c.unread.ensures)
 
-pub returns-in-Enum : goal.returns-in-Enum
-unfolding row_of_kind rows_among
-returns-in-Enum c = let a = c.args in
-    let s = c.requires.0 in
-    let told = c.in-Enum.is in record {
-      rowed_value = rw told c.enum_row.ensures;
-      made_reads = if_row_holds c.enum_row.result (rw (none_between a.words.now a.heading.first a.heading.end (rw told at s.references ∙ add-zero a.heading.first)));
-    }
-
-pub returns-in-Option : goal.returns-in-Option
+pub returns-in_err-enum_row-in-Enum-clause-value : goal.returns-in_err-enum_row-in-Enum-clause-value
 unfolding row_of_kind
-returns-in-Option c = let a = c.args in
-    let s = c.requires.0 in
-    let told = c.in-Option.is in record {
-      rowed_value = rw told c.option_row.ensures.rowed_value;
-      made_reads = rw (one_between a.words.now a.heading.first a.heading.end (rw told at s.references) (omega (arith, rw told at s.references, rw told at s.numbers, s.inside))) c.option_row.ensures.made_reads;
-    }
+returns-in_err-enum_row-in-Enum-clause-value c =
+    let p = err_from_is_err_and c.from_residual-in_err-enum_row-in-Enum.result c.from_residual-in_err-enum_row-in-Enum.ensures.1 in
+    rw (p.1, p.2, c.in-Enum.is) c.in_err-enum_row-in-Enum.ensures
 
-pub returns-in-FixedLengthList : goal.returns-in-FixedLengthList
+pub returns-in_ok-enum_row-in-Enum-clause-value : goal.returns-in_ok-enum_row-in-Enum-clause-value
 unfolding row_of_kind
-returns-in-FixedLengthList c = let a = c.args in
-    let s = c.requires.0 in
-    let told = c.in-FixedLengthList.is in record {
-      rowed_value = rw told c.fixed_row.ensures.rowed_value;
-      made_reads = rw (one_between a.words.now a.heading.first a.heading.end (rw told at s.references) (omega (arith, rw told at s.references, rw told at s.numbers, s.inside))) c.fixed_row.ensures.made_reads;
-    }
+returns-in_ok-enum_row-in-Enum-clause-value c =
+    rw (c.unread-in-Enum.ensures, c.in-Enum.is) c.in_ok-enum_row-in-Enum.ensures
+
+pub returns-in_ok-enum_row-in-Enum-clause-reads : goal.returns-in_ok-enum_row-in-Enum-clause-reads
+unfolding rows_among
+returns-in_ok-enum_row-in-Enum-clause-reads c =
+    rw (← (no_word _ (rw c.in-Enum.is at (reference_count c.args.words.now (heading_means c.args.heading) c.requires.0))), c.unread-in-Enum.ensures)
+
+pub returns-in_err-element-in-FixedLengthList-clause-value : goal.returns-in_err-element-in-FixedLengthList-clause-value
+unfolding row_of_kind between
+returns-in_err-element-in-FixedLengthList-clause-value c =
+    let p = err_from_is_err_and c.from_residual-in_err-element-in-FixedLengthList.result c.from_residual-in_err-element-in-FixedLengthList.ensures.1 in
+    rw (p.1, p.2, c.in-FixedLengthList.is) (stopped _ (fixed_row (get_or c.args.words.now c.args.heading.end 0)) c.in_err-element-in-FixedLengthList.ensures.value)
+
+pub returns-in_err-row-in-FixedLengthList-clause-value : goal.returns-in_err-row-in-FixedLengthList-clause-value
+unfolding row_of_kind between
+returns-in_err-row-in-FixedLengthList-clause-value c =
+    let p = err_from_is_err_and c.from_residual-in_err-row-in-FixedLengthList.result c.from_residual-in_err-row-in-FixedLengthList.ensures.1 in
+    rw (p.1, p.2, c.in-FixedLengthList.is)
+    (c.in_err-row-in-FixedLengthList.ensures ∙ sym (then_is _ _ (fixed_row (get_or c.args.words.now c.args.heading.end 0)) (sym c.in_ok-element-in-FixedLengthList.ensures.value)))
+
+pub returns-in_ok-row-in-FixedLengthList-clause-value : goal.returns-in_ok-row-in-FixedLengthList-clause-value
+unfolding row_of_kind between
+returns-in_ok-row-in-FixedLengthList-clause-value c =
+    rw c.in-FixedLengthList.is
+    (c.in_ok-row-in-FixedLengthList.ensures ∙ sym (then_is _ _ (fixed_row (get_or c.args.words.now c.args.heading.end 0)) (sym c.in_ok-element-in-FixedLengthList.ensures.value)))
+
+pub returns-in_ok-row-in-FixedLengthList-clause-reads : goal.returns-in_ok-row-in-FixedLengthList-clause-reads
+unfolding between
+returns-in_ok-row-in-FixedLengthList-clause-reads c =
+    rw (← (one_word _ (rw c.in-FixedLengthList.is at (reference_count c.args.words.now (heading_means c.args.heading) c.requires.0)))) c.in_ok-element-in-FixedLengthList.ensures.reads

@@ -1,11 +1,6 @@
 -- All words are decoded, and as many go back.
-use mathlib.Core.Path.{ap, ap₂, ◌∙◌}
-use mathlib.Core.List.{List}
-use Prim.Native.Nat.{ℕ, ◌/◌}
-use native.Mathlib.Omega.{arith}
-use lib.ListN.{length}
+use Rattle.std.proofs.Common.{List, ℕ, ◌/◌, length, ap, ap₂, ◌∙◌, arith}
 use lib.Seq.{take_all}
-use borrow.Author.Rules.{rules}
 use Rattle.canon.specs.Description.{build_answer, table_after}
 use Rattle.canon.specs.Cost.{build_reads}
 use Rattle.words.specs.Words.{put_words}
@@ -17,11 +12,9 @@ use Rattle.host.proofs.build_bytes.build_long.Goals as goal
 pub returns : goal.returns
 returns c =
     let t = c.args.table.now in
-    let words = c.words_of-count in
-    let table = c.words_of-room in
     let into = c.build_into in
-    let all = front_all _ _ 16384 (search rules) (search rules) words.ensures.0 words.ensures.1 in
-    let rows = front_all _ _ 16384 (search rules) (search rules) table.ensures.0 table.ensures.1 in
+    let all = front_all c.args.words.now 16384 c.requires.0 c.decoded.ensures in
+    let rows = front_all t 16384 c.requires.1 c.decoded-2.ensures in
     let after = into.new.table in record {
       value = into.ensures.value ∙ ap₂ (λ (ws u : List ℕ). build_number (build_answer ws u) (build_reads ws u)) all rows;
       table_after = into.ensures.bytes_after

@@ -1,27 +1,23 @@
 -- The one row that the reference names.
-use mathlib.Core.Path.{sym, ◌∙◌}
-use native.Mathlib.Omega.{arith}
+use Rattle.std.proofs.Common.{◌∙◌, arith}
 use Rattle.canon.specs.Answer.{then}
 use Rattle.canon.specs.Question.{size_align_answer}
 use Rattle.words.specs.Words.{whole_words}
 use Rattle.host.proofs.ShortLists.{room_1, type_missing, type_alike}
 use Rattle.host.proofs.table_bytes.lampughjata_size_align_bytes.Goals as goal
 
-pub returns-then-no_rows : goal.returns-then-no_rows
+pub returns-in_default : goal.returns-in_default
 unfolding size_align_answer then
-returns-then-no_rows c =
-    let a = c.args in
-    let missing = sym c.no_rows.ensures ∙ c.if-no_rows.true in
-    rw (type_missing (whole_words a.table.now) a.rows a.reference missing) c.refused.ensures
+returns-in_default c = rw (type_missing (whole_words c.args.table.now) c.args.rows c.args.reference c.in_default.ensures) c.refused.ensures
 
 pub pick_row-name-requires : goal.pick_row-name-requires
-pick_row-name-requires c = (sym c.no_rows.ensures ∙ c.if-no_rows.false, rw room_1 (omega arith))
+pick_row-name-requires c = rw room_1 (omega arith)
 
 pub returns : goal.returns
 unfolding size_align_answer
 returns c =
-    let a = c.args in
-    let there = sym c.no_rows.ensures ∙ c.if-no_rows.false in
-    let pick = c.pick_row-name in
-    c.lampughjata_size_align.ensures
-    ∙ rw (type_alike _ (whole_words a.table.now) 1 a.rows (rw pick.ensures.keeps.size room_1) there _ a.reference pick.ensures.upper_bound.1)
+    let lent = c.in-Some.lent in
+    let same = c.in-Some.ensures in
+    let pick = c.pick_row-name.ensures in
+    rw (← same.0, ← same.1)
+    (c.lampughjata_size_align.ensures ∙ rw (type_alike _ (whole_words lent.table.now) 1 lent.rows (rw pick.keeps.size room_1) lent.there _ c.args.reference pick.upper_bound.1))

@@ -1,8 +1,5 @@
--- The loop's invariant: these infos have been read, and what was gathered is what they give together (`goes_on`, `with_more_lem`).
-use mathlib.Core.Path.{◌≡◌}
-use mathlib.Core.List.{List}
-use Prim.Native.Nat.{◌-◌, ◌≤◌}
-use lib.ListN.{length}
+-- These infos have been read, and what was gathered is what they give together (`goes_on`, `with_more_lem`).
+use Rattle.std.proofs.Common.{◌≡◌, List}
 use Rattle.canon.specs.Row.{Info}
 use Rattle.canon.specs.Question.{read}
 use Rattle.types.specs.Means.{memory_of}
@@ -12,8 +9,5 @@ use Rattle.questions.proofs.References.{Read}
 use Rattle.questions.proofs.list.gather_all.Given as goal
 
 abbrev pub invariant-loop-k : goal.invariant-loop-k
-invariant-loop-k l = (l.k ≤ length l.references)
-    × ((done : List Info) × Read (read l.table l.n) l.references l.k done × (gathering_means l.all ≡ together (memory_of l.memory) done))
-
-abbrev pub decreases-loop-k : goal.decreases-loop-k
-decreases-loop-k l = length l.references - l.k
+invariant-loop-k l =
+    (done : List Info) × Read (read l.rows.table.now l.rows.n) l.references.words.now l.k done × (gathering_means l.all ≡ together (memory_of l.memory) done)

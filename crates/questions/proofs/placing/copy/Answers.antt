@@ -1,25 +1,30 @@
--- The loop's invariant: the first i words are halves of the stage, the others as they were (`copy_turn`).
-use mathlib.Core.Path.{refl}
-use native.Mathlib.Omega.{arith}
+-- The words so far are those of the stage, the others as they were (`copy_turn`).
+use Rattle.std.proofs.Common.{arith, refl}
 use native.Mathlib.Nat.{le_antisymm}
-use lib.ListN.{length-set}
-use borrow.Author.Rules.{rules}
+use lib.Seq.{take_all}
+use Rattle.questions.specs.declared.placing.Staged.{Staged}
 use Rattle.questions.proofs.Memos.{copy_turn}
 use Rattle.questions.proofs.placing.copy.Goals as goal
 
-pub loop-i-init : goal.loop-i-init
-loop-i-init c = (search rules, refl, refl)
+pub loop-k-init : goal.loop-k-init
+loop-k-init c = record { offsets = refl; befores = refl }
 
-pub loop-i-preserved : goal.loop-i-preserved
-loop-i-preserved c =
-    let l = c.loop-i in
-    let a = c.args in (
-      search rules,
-      simp length-set l.invariant.1,
-      rw (l.invariant.2, c.of.ensures) (copy_turn a.half a.stage.now a.out.now l.i (omega arith) (omega arith)),
-    )
+pub loop-k-preserved : goal.loop-k-preserved
+loop-k-preserved c =
+    let a = c.args in
+    let l = c.loop-k in
+    let none : Staged = record { offset = 0; gap = 0 } in
+    record {
+      offsets = rw l.invariant.offsets (copy_turn (λ (s : Staged). s.offset) a.stage.now none a.out.now l.k (omega arith) (omega arith));
+      befores = rw l.invariant.befores (copy_turn (λ (s : Staged). s.gap) a.stage.now none a.gaps.now l.k (omega arith) (omega arith));
+    }
 
-pub returns : goal.returns
-returns c =
-    let l = c.loop-i in
-    rw (← le_antisymm l.invariant.0 c.loop-i-test.false) l.invariant.2
+pub returns-clause-out_after : goal.returns-clause-out_after
+returns-clause-out_after c =
+    let l = c.loop-k in
+    rw (← le_antisymm l.auto.k-end c.loop-k-test.false, ← take_all l.k c.args.stage.now c.loop-k-test.false) l.invariant.offsets
+
+pub returns-clause-gaps_after : goal.returns-clause-gaps_after
+returns-clause-gaps_after c =
+    let l = c.loop-k in
+    rw (← le_antisymm l.auto.k-end c.loop-k-test.false, ← take_all l.k c.args.stage.now c.loop-k-test.false) l.invariant.befores

@@ -1,120 +1,92 @@
--- The loop's invariant: these infos have been read, the members stand as canon places them, the memo has what was read, and the rows read back are
--- counted (`goes_on`, `stands_more`, `Recalled`, `rows_next`).
-use mathlib.Core.Path.{refl, sym, ap, ap₂, ◌∙◌}
-use mathlib.Core.List.{[], ◌∷◌, ◌++◌}
-use Prim.Native.Nat.{ℕ}
+-- What was read so far stands, and the memo has it (`Passed`, `Recalled`).
+use Rattle.std.proofs.Common.{rules, arith, ◌≡◌, sym, ap, ◌∙◌, [], ◌∷◌, get_or}
 use native.Mathlib.Nat.{le_antisymm}
-use native.Mathlib.Omega.{arith}
-use lib.ListN.{get_or, take, length-take}
-use lib.Seq.{take_all}
 use borrow.Author.Count.{below_more}
-use borrow.Author.Rules.{rules}
-use Rattle.canon.specs.Answer.{Answer, then}
-use Rattle.canon.specs.Layout.{Layout}
-use Rattle.canon.specs.Row.{info_layout}
-use Rattle.canon.specs.Question.{read, layouts_in}
-use Rattle.canon.specs.Cost.{rows_among, reported}
-use Rattle.canon.proofs.Costs.{rows_among_most, rows_next}
-use Rattle.canon.proofs.Questions.{read_aligned}
-use Rattle.canon.proofs.Tests.{impossible}
-use Rattle.types.specs.Means.{memory_of, number_of, layout_means}
+use Rattle.std.specs.Prelude.{Result, Ok, Err}
+use Rattle.canon.proofs.Costs.{rows_among_most}
+use Rattle.types.specs.Means.{leaf, memory_of, layout_means}
+use Rattle.types.specs.declared.refusal.Refusal.{Refusal}
 use Rattle.questions.specs.Means.{member_means}
-use Rattle.questions.specs.Steps.{next_place}
-use Rattle.questions.proofs.References.{part_is, begins, goes_on, stops, ends}
-use Rattle.questions.proofs.Members.{layouts_more, nothing_stands, stands_more, finish_is, placed_starts}
+use Rattle.questions.specs.declared.member.Member.{Member}
 use Rattle.questions.proofs.Memos.{known_all}
+use Rattle.questions.proofs.Passing.{none_passed, few_passed, one_passed, one_refused, all_read, all_passed, all_starts}
 use Rattle.questions.proofs.placing.judge.Goals as goal
 
 pub loop-k-init : goal.loop-k-init
-unfolding rows_among
 loop-k-init c =
     let a = c.args in
-    let p = c.requires in (
-      search rules,
-      p.2,
-      ([], begins (read a.table.now a.n) a.references.now, nothing_stands),
-      p.3,
-      λ j h. absurd (omega arith),
-      refl,
-    )
-
-pub recall-requires : goal.recall-requires
-recall-requires c =
-    let a = c.args in
-    let l = c.loop-k in (
-      c.requires.0,
-      omega (arith, l.invariant.5, rows_among_most (take l.k a.references.now), length-take l.k a.references.now, c.requires.1),
-      l.invariant.1,
-      l.invariant.3,
-    )
-
-pub returns-in-Refused : goal.returns-in-Refused
-unfolding then
-returns-in-Refused c = let a = c.args in
-    let l = c.loop-k in
-    let look = read a.table.now a.n in
-    let e =
-    stops look a.references.now (info_layout (memory_of a.memory)) l.k l.invariant.2.0 (number_of c.in-Refused.why) l.invariant.2.1
-    (sym (ap member_means c.in-Refused.is) ∙ c.recall.ensures.result_value) c.loop-k-test.true in
     record {
-      answers = record { answer = rw e; reads = rw e; after = rw e };
-      ready = λ q f. impossible (let g = rw e at f in cc);
+      passed = none_passed (memory_of a.memory) a.rows.table.now a.rows.n a.references.words.now;
+      remembers = c.requires;
+      there = λ j h. absurd (omega arith);
     }
 
-pub overflow_add-k : goal.overflow_add-k
-overflow_add-k c =
-    omega (arith, c.loop-k-test.true, c.requires.1)
+refused : (c : goal.After-from_residual) → (x : Refusal) × (c.recall.result ≡ Err x) × (c.from_residual.result ≡ Err (record { why = x; at = record { 0 = c.loop-k.k } }))
+refused c = search rules
+
+pub returns-in_err-member : goal.returns-in_err-member
+returns-in_err-member c =
+    let a = c.args in
+    let l = c.loop-k in
+    let e = refused c in
+    let g =
+    one_refused (memory_of a.memory) a.rows.table.now a.rows.n a.references.words.now l.k l.placed l.reads l.invariant.passed e.0
+    (sym (ap (λ (r : Result Member Refusal). leaf member_means r) e.1) ∙ c.recall.ensures.result_value) c.loop-k-test.true in
+    record { answers = rw e.2 g.0; ready = λ q f. absurd (g.1 q f) }
+
+pub overflow_add-reads : goal.overflow_add-reads
+overflow_add-reads c =
+    let a = c.args in
+    let l = c.loop-k in
+    let e : c.recall.result ≡ Ok c.in_ok-member.member = search rules in
+    record {
+      fits = omega (
+        arith,
+        few_passed (memory_of a.memory) a.rows.table.now a.rows.n a.references.words.now l.k l.placed l.reads l.invariant.passed l.auto.k-end,
+        a.references.few,
+        rows_among_most (get_or a.references.words.now l.k 0 ∷ []),
+        rw e at c.recall.ensures.member_reads,
+      );
+    }
 
 pub loop-k-preserved : goal.loop-k-preserved
-loop-k-preserved c = let a = c.args in
-    let p = c.requires in
+loop-k-preserved c =
+    let a = c.args in
     let l = c.loop-k in
-    let test = c.loop-k-test.true in
-    let m = memory_of a.memory in
-    let look = read a.table.now a.n in
-    let w = get_or a.references.now l.k 0 in
-    let done = l.invariant.2.0 in
-    let f = layout_means c.in-Layout.layout in
-    let rc = c.recall in
-    let r = part_is (info_layout m) (look w) f (sym (ap member_means c.in-Layout.is) ∙ rc.ensures.result_value) in
-    let q = c.next-placed.ensures ∙ ap (λ (x : Layout). next_place l.placed x (record { 0 = l.k })) (sym r.2) in
-    let al = read_aligned m a.table.now a.n w r.0 r.1 in (
-      search rules,
-      search rules,
-      (
-        done ++ r.0 ∷ [],
-        goes_on look a.references.now l.k done r.0 l.invariant.2.1 r.1 test,
-        rw (layouts_more m done r.0) (stands_more l.placed (layouts_in m done) l.k l.invariant.2.2 (info_layout m r.0) al c.next-placed.result q),
-      ),
-      rc.ensures.recalled.holds,
-      below_more _ _ (λ j h. rc.ensures.recalled.keeps _ (l.invariant.4 j h)) (rc.ensures.recalled.found f (sym rc.ensures.result_value ∙ ap member_means c.in-Layout.is)),
-      omega (arith, l.invariant.5, rw c.in-Layout.is at rc.ensures.member_reads, rows_next a.references.now l.k test),
-    )
+    let m = c.in_ok-member.member in
+    let e : c.recall.result ≡ Ok m = search rules in
+    let gives = sym (ap (λ (r : Result Member Refusal). leaf member_means r) e) ∙ c.recall.ensures.result_value in
+    let recalled = c.recall.ensures.recalled in
+    record {
+      passed =
+          one_passed (memory_of a.memory) a.rows.table.now a.rows.n a.references.words.now l.k l.placed l.reads l.invariant.passed
+          (layout_means m.layout) gives c.loop-k-test.true m.reads c.next-placed.result (rw e at c.recall.ensures.member_reads) c.next-placed.ensures;
+      remembers = recalled.holds;
+      there = below_more _ _ (λ j h. recalled.keeps _ (l.invariant.there j h)) (recalled.found (layout_means m.layout) (sym gives));
+    }
 
-pub returns : goal.returns
-unfolding then
-returns c = let a = c.args in
+pub returns-clause-answers : goal.returns-clause-answers
+returns-clause-answers c =
+    let a = c.args in
     let l = c.loop-k in
-    let done = l.invariant.2.0 in
+    let f = c.finish.ensures in
+    all_passed (memory_of a.memory) a.rows.table.now a.rows.n a.references.words.now l.k l.placed l.reads l.invariant.passed c.loop-k-test.false
+    c.finish.result f.value f.reads f.after
+
+pub returns-clause-ready : goal.returns-clause-ready
+returns-clause-ready c q e =
+    let a = c.args in
+    let l = c.loop-k in
     let m = memory_of a.memory in
-    let fs = layouts_in m done in
-    let st = l.invariant.2.2 in
-    let k = le_antisymm l.invariant.0 c.loop-k-test.false in
-    let e = ends (read a.table.now a.n) a.references.now l.k done l.invariant.2.1 c.loop-k-test.false in
-    let f = finish_is l.placed fs l.k st in
-    let all = l.invariant.5 ∙ ap rows_among (take_all l.k a.references.now c.loop-k-test.false) in record {
-      answers = record {
-        answer = rw e (c.finish.ensures.0 ∙ f.0);
-        reads = rw e (c.finish.ensures.1 ∙ ap₂ (λ (x : Answer Layout) (n : ℕ). reported x n) f.0 all);
-        after = rw e (c.finish.ensures.2 ∙ f.1);
-      };
-      ready = λ q g.
-          let b = placed_starts l.placed fs l.k st q (rw e at g) in
-          let there = rw k at l.invariant.4 in
-          let same = known_all m a.table.now a.n l.memo l.invariant.3 0 a.references.now done e there in
-          record {
-            all = record { there = there; aligned = rw same st.aligned; fits = rw same b.2 };
-            offsets = rw same b.0;
-            gaps = rw same b.1;
-          };
+    let t = a.rows.table.now in
+    let ws = a.references.words.now in
+    let p = l.invariant.passed in
+    let b = all_starts m t a.rows.n ws l.k l.placed l.reads p c.loop-k-test.false q e in
+    let there = rw (le_antisymm l.auto.k-end c.loop-k-test.false) at l.invariant.there in
+    let read = all_read m t a.rows.n ws l.k l.placed l.reads p c.loop-k-test.false in
+    let same = known_all m t a.rows.n l.memo l.invariant.remembers 0 ws p.done read there in
+    record {
+      all = record { there = there; aligned = rw same p.stands.aligned; fits = rw same b.2 };
+      offsets = rw same b.0;
+      gaps = rw same b.1;
     }

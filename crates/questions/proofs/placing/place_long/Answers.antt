@@ -1,45 +1,46 @@
--- What the first pass remembers the second writes (`written`); where it refuses nothing is written (`untouched`).
-use mathlib.Core.Path.{refl, ◌∙◌}
-use lib.ListN.{length, length-map}
+-- What the first pass remembers the second writes (`places_all`); where it refuses nothing is written (`places_none`).
+use Rattle.std.proofs.Common.{rules, ◌≡◌, ◌∙◌}
+use lib.ListN.{length-map}
+use Rattle.std.specs.Prelude.{Err}
 use Rattle.canon.specs.Layout.{starts}
 use Rattle.canon.specs.Gaps as canon_gaps
-use Rattle.canon.specs.Gaps.{offsets_of, gaps_of}
 use Rattle.canon.proofs.Questions.{starts_length}
 use Rattle.canon.proofs.Gaps.{gaps_length}
 use Rattle.types.specs.Means.{memory_of}
 use Rattle.questions.specs.Steps.{member_layout, known}
-use Rattle.questions.proofs.Members.{answered, untouched, written}
 use Rattle.questions.proofs.Memos.{remembers_none}
-use borrow.Author.Rules.{rules}
+use Rattle.questions.proofs.Passing.{places_none, placed_so, places_all}
 use Rattle.questions.proofs.placing.place_long.Goals as goal
 
 pub judge-requires : goal.judge-requires
-judge-requires c =
-    (c.requires.0, c.requires.1, refl, remembers_none (member_layout (memory_of c.args.memory) c.args.table.now c.args.n) 1088)
+judge-requires c = remembers_none (member_layout (memory_of c.args.memory) c.args.rows.table.now c.args.rows.n) 1088
 
-pub write-requires : goal.write-requires
-write-requires c =
-    let f = c.judge in
-    let p = answered _ _ (rw c.in-Whole.is at f.ensures.answers).answer in
-    let r = f.ensures.ready p.0 p.1 in
-    (c.requires.1, search rules, search rules, search rules, r.all)
+pub returns-in_err-whole : goal.returns-in_err-whole
+returns-in_err-whole c =
+    let a = c.args in
+    let e : c.from_residual.result ≡ Err c.in_err-whole.field-0.0 = search rules in
+    rw e
+    (places_none (memory_of a.memory) a.rows.table.now a.rows.n a.references.words.now a.out.now a.gaps.now c.in_err-whole.field-0.0
+    (rw c.in_err-whole.was at c.judge.ensures.answers))
 
-pub returns-in-Whole : goal.returns-in-Whole
-returns-in-Whole c =
-    let f = c.judge in
-    let refs = c.args.references.now in
-    let answers = rw c.in-Whole.is at f.ensures.answers in
-    let p = answered _ _ answers.answer in
-    let ready = f.ensures.ready p.0 p.1 in
-    let fs = known f.new.memo refs in
-    let written-by = c.write.ensures in
-    record {
-      answers = answers;
-      offsets = written offsets_of _ p.0 (starts 0 fs) _ _ (length refs) p.1 ready.offsets (starts_length 0 fs ∙ length-map refs _) written-by.out_after;
-      gaps = written gaps_of _ p.0 (canon_gaps.gaps 0 fs) _ _ (length refs) p.1 ready.gaps (gaps_length 0 fs ∙ length-map refs _) written-by.gaps_after;
-    }
+pub write-requires-clause-known : goal.write-requires-clause-known
+write-requires-clause-known c =
+    let a = c.args in
+    let p = placed_so (memory_of a.memory) a.rows.table.now a.rows.n a.references.words.now c.in_ok-whole.whole (rw c.in_ok-whole.was at c.judge.ensures.answers) in
+    (c.judge.ensures.ready p.0 p.1).all
 
-pub returns-in-Refused : goal.returns-in-Refused
-returns-in-Refused c =
-    let answers = rw c.in-Refused.is at c.judge.ensures.answers in
-    record { answers = answers; offsets = untouched offsets_of _ _ _ _ answers.answer; gaps = untouched gaps_of _ _ _ _ answers.answer }
+pub returns : goal.returns
+returns c =
+    let a = c.args in
+    let refs = a.references.words.now in
+    let m = memory_of a.memory in
+    let answers = rw c.in_ok-whole.was at c.judge.ensures.answers in
+    let p = placed_so m a.rows.table.now a.rows.n refs c.in_ok-whole.whole answers in
+    let ready = c.judge.ensures.ready p.0 p.1 in
+    let fs = known c.judge.new.memo refs in
+    places_all m a.rows.table.now a.rows.n refs c.in_ok-whole.whole answers
+    (starts 0 fs) (canon_gaps.gaps 0 fs) _ _ _ _
+    ready.offsets ready.gaps
+    (starts_length 0 fs ∙ length-map refs _)
+    (gaps_length 0 fs ∙ length-map refs _)
+    c.write.ensures.out_after c.write.ensures.gaps_after

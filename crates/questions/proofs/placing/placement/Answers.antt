@@ -1,70 +1,57 @@
--- The tests before the references, in their order.
-use mathlib.Core.Path.{sym, ◌∙◌}
-use native.Mathlib.Omega.{arith}
-use lib.ListN.{length}
-use borrow.Author.Tests.{ltb-false, lt-ltb, le-ltb}
-use Rattle.canon.specs.Answer.{then, unless}
-use Rattle.canon.specs.Question.{ask, placing, placement_answer, buffer_after, offsets_after}
-use Rattle.canon.specs.Cost.{placement_reads}
-use Rattle.canon.specs.Gaps.{room_of, padding, after_answer}
-use Rattle.types.specs.Means.{memory_of}
-use Rattle.canon.proofs.Gaps.{placement_padded, offsets_padded}
+-- The tests before the references, in their order (`Promised`).
+use Rattle.std.proofs.Common.{arith, ◌<◌, ◌≤◌, ap, ℕ, length}
+use Rattle.canon.specs.Gaps.{room_of}
+use Rattle.types.specs.Means.{memory_of, number_of}
+use Rattle.table.specs.declared.info.MemberPosition.{MemberPosition}
+use Rattle.table.specs.declared.refused.Refused.{Refused}
+use Rattle.questions.proofs.Asking.{too_long_so, bad_row_so, no_room_so, placed_so}
+use Rattle.questions.proofs.placing.placement.Goals.{then-out-references-via-then-out-references, then-out-references-via-else-out-references+then-gaps-references}
 use Rattle.questions.proofs.placing.placement.Goals as goal
 
-pub returns-then-too_many : goal.returns-then-too_many
-unfolding placement_reads placement_answer offsets_after placing after_answer padding ask unless then buffer_after
-returns-then-too_many c =
-    let e = sym c.too_many.ensures ∙ c.if-too_many.true in
-    record { answer = rw e; out_after = rw e; reads = rw e; gaps_after = rw e; after = rw e }
+abbrev why_of : Refused MemberPosition → ℕ
+why_of e = number_of e.why
 
-pub returns-then-no_table : goal.returns-then-no_table
-unfolding placement_reads placement_answer offsets_after placing after_answer padding ask unless then buffer_after
-returns-then-no_table c =
-    let e = sym c.too_many.ensures ∙ c.if-too_many.false in
-    let f = sym c.no_table.ensures ∙ c.if-no_table.true in
-    record { answer = rw (e, f); out_after = rw (e, f); reads = rw (e, f); gaps_after = rw (e, f); after = rw (e, f) }
+abbrev place_of : Refused MemberPosition → ℕ
+place_of e = e.at.0
+
+pub returns-in_default : goal.returns-in_default
+returns-in_default c =
+    let a = c.args in
+    let e = c.refused.ensures in
+    let p = too_long_so (memory_of a.memory) a.table.now a.n a.references.now a.out.now a.gaps.now c.refused.result (ap why_of e) (ap place_of e) c.in_default.ensures in
+    record { answer = p.answer; out_after = p.out_after; reads = p.reads; gaps_after = p.gaps_after; after = p.after }
+
+pub returns-in_default-of : goal.returns-in_default-of
+returns-in_default-of c =
+    let a = c.args in
+    let e = c.refused-in_default-of.ensures in
+    let p =
+    bad_row_so (memory_of a.memory) a.table.now a.n a.references.now a.out.now a.gaps.now c.in-Some.ensures.0 c.refused-in_default-of.result (ap why_of e) (ap place_of e)
+    c.in_default-of.ensures in
+    record { answer = p.answer; out_after = p.out_after; reads = p.reads; gaps_after = p.gaps_after; after = p.after }
 
 pub returns-then-out-references : goal.returns-then-out-references
-unfolding placement_reads placement_answer offsets_after placing after_answer padding ask unless then buffer_after
 returns-then-out-references c =
-    let e = sym c.too_many.ensures ∙ c.if-too_many.false in
-    let f = sym c.no_table.ensures ∙ c.if-no_table.false in
     let a = c.args in
-    let g = lt-ltb (room_of a.out.now a.gaps.now) (length a.references.now) (omega (arith, c.if-out-references.true)) in
-    record { answer = rw (e, f, g); out_after = rw (e, f, g); reads = rw (e, f, g); gaps_after = rw (e, f, g); after = rw (e, f, g) }
-
-pub returns-then-gaps-references : goal.returns-then-gaps-references
-unfolding placement_reads placement_answer offsets_after placing after_answer padding ask unless then buffer_after
-returns-then-gaps-references c =
-    let e = sym c.too_many.ensures ∙ c.if-too_many.false in
-    let f = sym c.no_table.ensures ∙ c.if-no_table.false in
-    let a = c.args in
-    let g = lt-ltb (room_of a.out.now a.gaps.now) (length a.references.now) (omega (arith, c.if-gaps-references.true)) in
-    record { answer = rw (e, f, g); out_after = rw (e, f, g); reads = rw (e, f, g); gaps_after = rw (e, f, g); after = rw (e, f, g) }
-
-pub place_all-requires : goal.place_all-requires
-place_all-requires c = (
-  sym c.no_table.ensures ∙ c.if-no_table.false,
-  ltb-false _ _ (sym c.too_many.ensures ∙ c.if-too_many.false),
-  c.if-out-references.false,
-  c.if-gaps-references.false,
-)
+    let few = c.in-Some.ensures in
+    let short : room_of a.out.now a.gaps.now < length a.references.now = elim c.then-out-references.branch [
+      | then-out-references-via-then-out-references w ↦ omega (arith, w.if-out-references.true, ap length few.1)
+      | then-out-references-via-else-out-references+then-gaps-references w ↦ omega (arith, w.if-gaps-references.true, ap length few.1)
+    ] in
+    let e = c.refused-then-out-references.ensures in
+    let p =
+    no_room_so (memory_of a.memory) a.table.now a.n a.references.now a.out.now a.gaps.now few.0 c.in-Some-of.ensures.0 c.refused-then-out-references.result (ap why_of e)
+    (ap place_of e) short in
+    record { answer = p.answer; out_after = p.out_after; reads = p.reads; gaps_after = p.gaps_after; after = p.after }
 
 pub returns : goal.returns
-unfolding placement_reads after_answer padding ask unless
 returns c =
-    let e = sym c.too_many.ensures ∙ c.if-too_many.false in
-    let f = sym c.no_table.ensures ∙ c.if-no_table.false in
     let a = c.args in
-    let m = memory_of a.memory in
-    let room = room_of a.out.now a.gaps.now in
-    let g = le-ltb room (length a.references.now) (omega (arith, c.if-out-references.false, c.if-gaps-references.false)) in
-    let layout = placement_padded m a.table.now a.n a.references.now room in
-    let offsets = offsets_padded m a.table.now a.n a.references.now room a.out.now in
-    let all = c.place_all.ensures in record {
-      answer = rw (layout, e, f, g) all.answers.answer;
-      out_after = rw (offsets, e, f, g) all.offsets;
-      reads = rw (layout, e, f, g) all.answers.reads;
-      gaps_after = rw (e, f, g) all.gaps;
-      after = rw (e, f, g) all.answers.after;
-    }
+    let few = c.in-Some.ensures in
+    let there = c.in-Some-of.ensures in
+    let fits : length a.references.now ≤ room_of a.out.now a.gaps.now =
+    omega (arith, c.if-out-references.false, c.if-gaps-references.false, ap length few.1) in
+    let p =
+    placed_so (memory_of a.memory) a.table.now a.n a.references.now a.out.now a.gaps.now few.0 there.0 c.place_all.result c.place_all.new.out c.place_all.new.gaps fits
+    (rw (few.1, there.1, there.2) at c.place_all.ensures) in
+    record { answer = p.answer; out_after = p.out_after; reads = p.reads; gaps_after = p.gaps_after; after = p.after }

@@ -1,21 +1,22 @@
 -- The words of the row in its cells; nothing where there is no room.
-use mathlib.Core.Path.{sym, ap, ◌∙◌}
-use mathlib.Core.List.{List}
-use Prim.Native.Nat.{ℕ}
-use Rattle.canon.specs.Table.{put_from}
-use Rattle.table.specs.Means.{row_means}
-use Rattle.table.proofs.Reading.{put_there, put_missing}
+use mathlib.Core.Path.{refl, sym, ap, ◌∙◌}
+use lib.ListN.{length}
+use native.Mathlib.Omega.{arith}
+use Rattle.table.proofs.Reading.{put_missing}
+use Rattle.table.proofs.Putting.{store_turn, store_end}
 use Rattle.table.proofs.row.put_row.Goals as goal
 
-pub returns-then-at-room : goal.returns-then-at-room
-returns-then-at-room c =
-    let a = c.args in
-    let room = c.capacity-room in
-    rw (put_there a.table.now room.result a.index.0 room.ensures.0 (row_means a.row) c.if-at-room.true)
-    (c.put_cells.ensures ∙ ap (λ (ws : List ℕ). put_from room.result a.index.0 0 ws a.table.now) c.row_words.ensures)
+pub loop-k-preserved : goal.loop-k-preserved
+loop-k-preserved c =
+    let l = c.loop-k in
+    store_turn c.in-Some.cells.room c.in-Some.cells.row l.k c.row_words.result l.table _ _ (omega (arith, ap length c.row_words.ensures)) c.place.ensures.is refl ∙ l.invariant
 
-pub returns-else-at-room : goal.returns-else-at-room
-returns-else-at-room c =
-    let a = c.args in
-    let room = c.capacity-room in
-    sym (put_missing a.table.now room.result a.index.0 room.ensures.0 (row_means a.row) c.if-at-room.false)
+pub returns : goal.returns
+returns c =
+    let l = c.loop-k in
+    let s = c.in-Some.ensures in
+    rw (← c.row_words.ensures)
+    (store_end c.in-Some.cells.room c.in-Some.cells.row l.k c.row_words.result l.table c.args.table.now c.args.index.0 s.0 s.1 c.in-Some.cells.there (omega (arith, ap length c.row_words.ensures)) l.invariant)
+
+pub returns-in_default : goal.returns-in_default
+returns-in_default c = sym (put_missing c.args.table.now _ c.args.index.0 refl _ c.in_default.ensures)

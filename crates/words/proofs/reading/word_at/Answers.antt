@@ -1,10 +1,10 @@
--- A whole word, or 0 past the last.
-use mathlib.Core.Path.{sym, ◌∙◌}
-use Rattle.words.proofs.Laws.{whole_at, whole_past}
+-- A chunk is a whole word (`chunk_word`), and past the last there is none.
+use Rattle.std.proofs.Common.{arith, rules, ◌∙◌}
+use Rattle.words.proofs.Laws.{chunk_word}
 use Rattle.words.proofs.reading.word_at.Goals as goal
 
-pub returns-then-k-bytes : goal.returns-then-k-bytes
-returns-then-k-bytes c = c.four_bytes.ensures ∙ sym (whole_at _ _ c.if-k-bytes.true)
-
-pub returns-else-k-bytes : goal.returns-else-k-bytes
-returns-else-k-bytes c = sym (whole_past _ _ c.if-k-bytes.false)
+pub returns-in-Some : goal.returns-in-Some
+returns-in-Some c =
+    let l = c.in-Some.ensures.lookup in
+    let e = c.as_chunks.ensures in
+    c.from_le_bytes.ensures ∙ chunk_word c.args.bytes.now c.args.k c.in-Some.chunk.now e.front (omega (arith, l, e.front_len)) (search (rules, l))

@@ -1,18 +1,14 @@
--- The loop's invariant: the words so far, then what the buffer had (`read_turn`).
-use mathlib.Core.Path.{refl}
-use native.Mathlib.Nat.{le_antisymm}
-use lib.ListN.{length-set}
-use borrow.Author.Rules.{rules}
-use Rattle.words.proofs.Laws.{read_turn}
+-- One word more (`read_turn`): a chunk is a whole word (`chunk_word`).
+use Rattle.std.proofs.Common.{◌<◌, ◌/◌, ◌∙◌, [], arith, get_or-take, length, length-take}
+use Rattle.words.proofs.Laws.{chunk_word, read_turn}
 use Rattle.words.proofs.reading.words_of.Goals as goal
 
-pub loop-k-init : goal.loop-k-init
-loop-k-init c = (search rules, refl, refl)
-
 pub loop-k-preserved : goal.loop-k-preserved
-loop-k-preserved c = (search rules, simp length-set c.loop-k.invariant.1, read_turn _ _ (search rules) (search rules) c.loop-k.invariant.2 c.four_bytes.ensures)
-
-pub returns : goal.returns
-returns c =
+loop-k-preserved c =
+    let e = c.as_chunks.ensures in
     let l = c.loop-k in
-    (c.min-n.ensures, rw (← le_antisymm l.invariant.0 c.loop-k-test.false) l.invariant.2)
+    let n = c.min-n.result in
+    let t = length-take n c.as_chunks.result.0.now in
+    let h : l.k < length c.args.bytes.now / 4 = omega (arith, t) in
+    read_turn c.args.bytes.now c.args.words.now h (omega (arith, t)) l.invariant
+    (c.from_le_bytes.ensures ∙ chunk_word c.args.bytes.now l.k _ e.front h (get_or-take n _ l.k [] (omega (arith, t))))

@@ -1,11 +1,7 @@
 -- The widest in both memories, the types joined, and what either reaches.
 use mathlib.Core.Path.{◌≡◌}
-use Rattle.canon.specs.Layout.{both, within}
 use Rattle.canon.specs.Reach.{join_reach}
 use Rattle.canon.proofs.Reaches.{word_back}
-use Rattle.canon.specs.Row.{info_layout}
-use Rattle.types.specs.Extents.{widest}
-use Rattle.types.specs.Means.{layouts_means}
 use Rattle.flat_types.specs.Lists.{both_words}
 use Rattle.flat_types.specs.Places.{joined}
 use Rattle.table.specs.Means.{info_means, reach_means}
@@ -17,8 +13,6 @@ pub returns : goal.returns
 unfolding add_payload
 returns c =
     let a = c.args in
-    let wider = c.widest in
-    let room : layouts_means wider.result ≡ both (λ m. widest (within m (layouts_means a.self.layouts)) (info_layout m (info_means a.payload))) = wider.ensures in
     let words : both_words c.join.result ≡ joined (both_words a.self.flat) (info_flat (info_means a.payload)) = rw (flat_kept a.payload) c.join.ensures in
     let reached : reach_means c.join-2.result ≡ join_reach (reach_means a.self.reach) (reach_means a.payload.reach) = rw c.join-2.ensures (word_back _) in
-    λ i. record { layouts = room i; flat = words i; reach = reached i }
+    λ i. record { layouts = c.widest.ensures i; flat = words i; reach = reached i }

@@ -1,11 +1,9 @@
 -- The step in both memories, the types behind those so far, and what either reaches.
-use mathlib.Core.Path.{◌≡◌}
-use Rattle.canon.specs.Layout.{both, within}
+use mathlib.Core.Path.{◌≡◌, ap, ◌∙◌}
+use Rattle.canon.specs.Layout.{Both, both, within}
 use Rattle.canon.specs.Reach.{join_reach}
 use Rattle.canon.proofs.Reaches.{word_back}
-use Rattle.canon.specs.Row.{info_layout}
-use Rattle.types.specs.Extents.{member_of}
-use Rattle.types.specs.Means.{extents_means}
+use Rattle.types.specs.declared.extent.Step.{Step}
 use Rattle.flat_types.specs.Lists.{both_words}
 use Rattle.flat_types.specs.Places.{append_to}
 use Rattle.table.specs.Means.{info_means, reach_means}
@@ -17,8 +15,7 @@ pub returns : goal.returns
 unfolding add_member
 returns c =
     let a = c.args in
-    let step = c.member-step in
-    let ends : extents_means step.result.extents ≡ both (λ m. (member_of (within m (extents_means a.self.extents)) (info_layout m (info_means a.member))).extent) = rw step.ensures in
+    let ends = c.extents.ensures ∙ ap (λ (b : Both Step). both (λ m. (within m b).extent)) c.member.ensures in
     let words : both_words c.append.result ≡ append_to 16 (both_words a.self.flat) (info_flat (info_means a.member)) = rw (flat_kept a.member) c.append.ensures in
     let reached : reach_means c.join.result ≡ join_reach (reach_means a.self.reach) (reach_means a.member.reach) = rw c.join.ensures (word_back _) in
     λ i. record { extents = ends i; flat = words i; reach = reached i }

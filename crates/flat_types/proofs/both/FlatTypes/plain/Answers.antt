@@ -10,8 +10,7 @@ use Rattle.canon.specs.Types.{plain}
 use Rattle.flat_types.specs.Lists.{packed_to, packed, halves}
 use Rattle.flat_types.proofs.Halves.{twice_is}
 use Rattle.flat_types.proofs.Listing.{holds, holds_none}
-use Rattle.flat_types.proofs.References.{code_at, scalar_code, past, code_small, code_fits}
-use borrow.Author.Rules.{rules}
+use Rattle.flat_types.proofs.References.{code_at, scalar_code, past, code_small}
 use Rattle.flat_types.proofs.both.FlatTypes.plain.Goals as goal
 
 -- the constant's words, in each memory
@@ -20,19 +19,16 @@ unfolding packed_to pack flatten
 pair mem32 = refl
 pair mem64 = refl
 
-pub returns-then-reference-gt17 : goal.returns-then-reference-gt17
+pub returns-in-12 : goal.returns-in-12
+returns-in-12 c = rw c.in-12.is pair
+
+pub returns-in-0-to-17 : goal.returns-in-0-to-17
+returns-in-0-to-17 c =
+    let k = c.args.reference in
+    holds (λ m. map_option (flatten m) (get_elem? plain k)) (λ m. code_at k) (twice_is (code_at k)) (code_small k) (λ m. scalar_code m k (omega arith) (λ e. omega arith))
+
+pub returns-in_default : goal.returns-in_default
 unfolding packed_to
-returns-then-reference-gt17 c =
+returns-in_default c =
     let e = past plain c.args.reference (omega arith) in
     holds_none (λ m. map_option (flatten m) (get_elem? plain c.args.reference)) (λ m. rw e)
-
-pub returns-then-reference-eq12 : goal.returns-then-reference-eq12
-returns-then-reference-eq12 c = rw c.if-reference-eq12.true pair
-
-pub overflow_mul-result : goal.overflow_mul-result
-overflow_mul-result c = search (rules, code_fits)
-
-pub returns : goal.returns
-returns c =
-    let k = c.args.reference in
-    holds (λ m. map_option (flatten m) (get_elem? plain k)) (λ m. code_at k) (twice_is (code_at k)) (code_small k) (λ m. scalar_code m k (omega arith) c.if-reference-eq12.false)

@@ -1,5 +1,0 @@
-use Rattle.host.proofs.Short.{flatten_short}
-use Rattle.host.proofs.signatures.lampughjata_lifting.Goals as goal
-
-pub flattened_number-requires : goal.flattened_number-requires
-flattened_number-requires c = rw c.flatten_lifting_types.ensures (flatten_short _ _ _ _ _)
