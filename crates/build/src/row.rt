@@ -51,7 +51,7 @@ pub(crate) fn row_of(kind: Kind, info: Info, inner: Inner) -> Row
 }
 
 // Makes the last two tests of a definition. Refuses TooDeep, by what its references reach, then TooLarge where a memory cannot hold it.
-#[tactic(auto, unfolding(crate::specs::Steps::limited_of, canon::specs::Answer::and_then))]
+#[tactic(auto, unfolding(crate::specs::Steps::limited_of, canon::specs::Answer::and_then, table::specs::Means::deeper_answer))]
 pub(crate) fn within_limits(extents: Both<Extent>, parts: Reach) -> Result<Limited, Refusal>
     ensures { leaf limited_means result ≡ limited_of (each extents) (reach_means parts) }
 {

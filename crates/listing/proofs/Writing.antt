@@ -1,5 +1,5 @@
 -- Texts written one after another are one text.
-use Rattle.std.proofs.Common.{◌≡◌, ℕ, suc, ◌+◌, ◌^◌, ◌≤◌, ◌<◌, List, [], ◌∷◌, ◌++◌, length, get_or, set, take, drop, refl, sym, ap, ◌∙◌, arith, le_refl, add-one, add-zero, append_assoc, append-nil, take_all}
+use Rattle.std.proofs.Common.{◌≡◌, ℕ, zero, suc, ◌+◌, ◌/◌, ◌%◌, ◌^◌, ◌≤◌, ◌<◌, List, [], ◌∷◌, ◌++◌, length, get_or, set, take, drop, refl, sym, ap, ◌∙◌, arith, le_refl, add-one, add-zero, append_assoc, append-nil, take_all, length-append, take-append-drop}
 use Rattle.std.proofs.Math.Seq.{sets, length-sets, take-suc}
 pub use Rattle.std.proofs.lemmas.Grind.{common_steps}
 use Rattle.std.proofs.lemmas.Fmt.{AppendsLastDigit, decimal_from_appends, length-decimal-le}
@@ -44,9 +44,35 @@ appends_last : AppendsLastDigit digits
 unfolding digits
 appends_last = record { one = λ k n h. rw (lt-ltb n 10 h); more = λ k n h. rw (le-ltb n 10 h) }
 
+-- a number has a digit more for each power of ten that it reaches
+pub length_digits : (j k n : ℕ) → k ≤ j → (0 < k → 10 ^ k ≤ n) → n < 10 ^ suc k → suc k ≡ length (digits (suc j) n)
+unfolding digits
+length_digits j zero n h low high = rw (lt-ltb n 10 (omega arith))
+length_digits zero (suc k) n h low high = absurd (omega arith)
+length_digits (suc j) (suc k) n h low high =
+    let l : 10 ^ suc k ≤ n = low (omega arith) in
+    rw (le-ltb n 10 (omega arith), length-append (digits (suc j) (n / 10)) ((48 + n % 10) ∷ []))
+    (omega (arith, length_digits j k (n / 10) (omega arith) (λ p. omega arith) (omega arith)))
+
 -- the library prints a word as these digits
 pub decimal_is : (n : ℕ) → n < 2 ^ 32 → fmt.decimal n ≡ decimal n
 decimal_is n h = sym (decimal_from_appends digits appends_last 10 n (omega arith) (length-decimal-le 10 n (omega arith) (omega arith) (omega arith)))
+
+-- a number that the library writes is n, so it has room where n has, and what was written up to an end is n's digits from where they start
+
+pub digits_fit : (m n end : ℕ) → n < 2 ^ 32 → length (decimal n) ≤ end → m ≡ n → length (fmt.decimal m) ≤ end
+digits_fit m n end small fits e = let l : length (fmt.decimal m) ≡ length (decimal n) = ap (λ (k : ℕ). length (fmt.decimal k)) e ∙ ap length (decimal_is n small) in omega arith
+
+pub decimal_written :
+    (out new : List ℕ) (m n at end start : ℕ) → n < 2 ^ 32 → end ≡ at + length (decimal n) → end ≤ length out →
+    start + length (fmt.decimal m) ≡ end → drop start new ≡ fmt.decimal m ++ drop end out → take start new ≡ take start out → m ≡ n →
+    new ≡ written out at (decimal n)
+decimal_written out new m n at end start small e fits s d t f =
+    let same : fmt.decimal m ≡ decimal n = ap fmt.decimal f ∙ decimal_is n small in
+    let l : length (fmt.decimal m) ≡ length (decimal n) = ap length same in
+    let first : start ≡ at = omega arith in
+    sym (take-append-drop start new)
+    ∙ rw (d, t, same, first, e) (sym (written_sets (decimal n) out at ∙ sets-eq (decimal n) out at (omega arith) ∙ append_assoc (take at out) (decimal n) (drop (at + length (decimal n)) out)))
 
 -- Numbers, one after another
 

@@ -7,12 +7,12 @@
 // and every other kind, a question about the table before it, is passed over.
 #![tactic(auto)]
 
-ghost use Rattle.std.specs.Prelude.{◌+◌, ◌≤◌, length, IfSome};
+ghost use Rattle.std.specs.Prelude.{◌<◌, ◌+◌, ◌≤◌, length, take, IfOk, IfSome};
+ghost use Rattle.std.specs.Io.KnownBytes.{Consumes, IsAtEnd};
 
 use build::{MAX_BYTES, MAX_WORDS, build};
-use input::read_full;
 use std::io;
-use std::io::{Input, Print};
+use std::io::{Input, Print, Read};
 use table::{MOST_ROWS, ROW_WORDS, TABLE_WORDS};
 use words::words_of;
 
@@ -114,6 +114,23 @@ fn replay(words: &[u32]) -> Tally {
         tally.different += 1;
     }
     tally
+}
+
+// Reads until `bytes` is full or the input ends, and answers how many bytes were read. A read that fails ends it, an interrupted one too:
+// what was read before is lost.
+fn read_full<R: Read>(input: &mut R, bytes: &mut [u8]) -> io::Result<usize>
+    ensures fits { IfOk result (λ n. n ≤ length bytes.new) }
+    ensures front { IfOk result (λ n. Consumes (R.remaining input.old) (R.remaining input.new) (take n bytes.new)) }
+    ensures end { IfOk result (λ n. n < length bytes.new → IsAtEnd (R.remaining input.new)) }
+{
+    let mut count = 0;
+    while count < bytes.len() {
+        match input.read(&mut bytes[count..])? {
+            0 => break,
+            read => count += read,
+        }
+    }
+    Ok(count)
 }
 
 fn main(rt: HostRuntime) -> io::Result<()> {

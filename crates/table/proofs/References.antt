@@ -24,24 +24,28 @@ use Rattle.flat_types.proofs.Rows.{plain_words_lem}
 use Rattle.std.specs.Prelude.{Some}
 use Rattle.types.specs.Means.{abi_means}
 use Rattle.types.specs.declared.info.CanonicalAbiInfo.{CanonicalAbiInfo}
-use Rattle.table.specs.Means.{PlainLayouts, reach_means, reach_of, info_means}
+use Rattle.table.specs.Means.{Plain, PlainLayouts, reach_means, reach_of, info_means}
 use Rattle.table.specs.declared.info.Info.{Info}
 
 -- what the arms of plain.rt have
 
-abbrev scalar : ℕ → CanonicalAbiInfo
+abbrev pub scalar : ℕ → CanonicalAbiInfo
 scalar n = record { size32 = n; align32 = n; size64 = n; align64 = n; flat_count = Some 1 }
 
-abbrev pair : CanonicalAbiInfo
+abbrev pub pair : CanonicalAbiInfo
 pair = record { size32 = 8; align32 = 4; size64 = 16; align64 = 8; flat_count = Some 2 }
 
 unfoldable pub arm : ℕ → CanonicalAbiInfo
 arm k = cond (ltb k 3) (scalar 1) (cond (ltb k 5) (scalar 2) (cond (eqb k 7 || (eqb k 8 || eqb k 10)) (scalar 8) (cond (eqb k 12) pair (scalar 4))))
 
-pub arm_is : (k : ℕ) (a : CanonicalAbiInfo) → k ≤ 17 → a ≡ arm k → PlainLayouts k (abi_means a).layouts
+arm_laid : (k : ℕ) (a : CanonicalAbiInfo) → k ≤ 17 → a ≡ arm k → PlainLayouts k (abi_means a).layouts
 unfolding arm layout
-arm_is k a h e mem32 = rw e (same_below 18 (λ i. map_option (layout mem32) (get_elem? plain i)) (λ i. some (abi_means (arm i)).layouts.in32) refl k (omega arith))
-arm_is k a h e mem64 = rw e (same_below 18 (λ i. map_option (layout mem64) (get_elem? plain i)) (λ i. some (abi_means (arm i)).layouts.in64) refl k (omega arith))
+arm_laid k a h e mem32 = rw e (same_below 18 (λ i. map_option (layout mem32) (get_elem? plain i)) (λ i. some (abi_means (arm i)).layouts.in32) refl k (omega arith))
+arm_laid k a h e mem64 = rw e (same_below 18 (λ i. map_option (layout mem64) (get_elem? plain i)) (λ i. some (abi_means (arm i)).layouts.in64) refl k (omega arith))
+
+pub arm_is : (k : ℕ) (a : CanonicalAbiInfo) → k ≤ 17 → a ≡ arm k → Plain k (abi_means a)
+unfolding arm flat_count
+arm_is k a h e = (arm_laid k a h e, rw e (same_below 18 (λ i. map_option flat_count (get_elem? plain i)) (λ i. some (abi_means (arm i)).flats) refl k (omega arith)))
 
 -- or a scalar's size by its HALVINGS
 
@@ -74,10 +78,13 @@ there k h = go (get_elem? plain k) (none_there plain k (omega arith))
     go none n = absurd (n refl)
     go (some t) n = (t, refl)
 
-pub string_is : {k : ℕ} → k ≡ 12 → PlainLayouts k (record { in32 = record { size = 8; align = 4 }; in64 = record { size = 16; align = 8 } })
-unfolding layout
-string_is e mem32 = rw e
-string_is e mem64 = rw e
+pub string_is : {k : ℕ} → k ≡ 12 → Plain k (record { layouts = record { in32 = record { size = 8; align = 4 }; in64 = record { size = 16; align = 8 } }; flats = some 2 })
+unfolding layout flat_count
+string_is {k} e = (wide, rw e)
+  where
+    wide : (m : Memory) → map_option (layout m) (get_elem? plain k) ≡ some (within m (record { in32 = record { size = 8; align = 4 }; in64 = record { size = 16; align = 8 } }))
+    wide mem32 = rw e
+    wide mem64 = rw e
 
 -- an info is a type's where its layouts, its flat words and its reach are
 pub info_is :

@@ -3,6 +3,7 @@ use Rattle.std.specs.Prelude.{cond, List, [], ◌∷◌, ◌≡◌, ℕ, Result,
 use Rattle.std.proofs.Math.Option.{some}
 use Rattle.std.proofs.Math.ListN.{get_elem?}
 use Rattle.canon.specs.Answer.{Leaf, is, no, Answer, ok, refused, map_option, too_deep}
+use Rattle.canon.specs.Flat.{flat_count}
 use Rattle.canon.specs.Layout.{Both, Memory, within, Layout, layout}
 use Rattle.canon.specs.Row as canon
 use Rattle.canon.specs.Reach as reach
@@ -54,6 +55,10 @@ info_means i =
 -- the layouts of a reference without a definition
 abbrev pub PlainLayouts : ℕ → Both Layout → Type 0
 PlainLayouts k ls = (m : Memory) → map_option (layout m) (get_elem? plain k) ≡ some (within m ls)
+
+-- and its five numbers
+abbrev pub Plain : ℕ → canon.Abi → Type 0
+Plain k a = PlainLayouts k a.layouts × (map_option flat_count (get_elem? plain k) ≡ some a.flats)
 
 -- 01, "Row": the sixteen words in their order
 abbrev pub row_means : Row → List ℕ

@@ -5,6 +5,7 @@ ghost use Rattle.table.specs.Rows.{row_in, table_with};
 
 use crate::cells::{Cells, ROW_WORDS};
 use crate::info::DefinitionIndex;
+use words::from_le_bytes;
 
 // Writes nothing where either table has no room for its row. The two may have room for more rows the one than the other.
 pub fn take_row(bytes: &[u8], from: DefinitionIndex, table: &mut [u32], to: DefinitionIndex)
@@ -18,6 +19,7 @@ pub fn take_row(bytes: &[u8], from: DefinitionIndex, table: &mut [u32], to: Defi
         return;
     };
     for k in 0..ROW_WORDS {
-        table[slot.place(k)] = u32::from_le_bytes(words[source.place(k)]);
+        let [a, b, c, d] = words[source.place(k)];
+        table[slot.place(k)] = from_le_bytes(a, b, c, d);
     }
 }

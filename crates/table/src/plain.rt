@@ -3,8 +3,8 @@ ghost use Rattle.std.specs.Prelude.{◌≡◌, ◌≤◌, eqb};
 ghost use Rattle.std.proofs.Math.ListN.{get_elem?};
 ghost use Rattle.canon.specs.Question.{plain_info};
 ghost use Rattle.canon.specs.Types.{plain};
-ghost use Rattle.types.specs.Means.{leaf, layouts_means};
-ghost use Rattle.table.specs.Means.{PlainLayouts, info_means, reach_of};
+ghost use Rattle.types.specs.Means.{leaf, abi_means, layouts_means};
+ghost use Rattle.table.specs.Means.{Plain, PlainLayouts, info_means, reach_of};
 
 use crate::info::Info;
 use crate::reach::Reach;
@@ -20,18 +20,25 @@ const LAST: u32 = 17;
 // How often 8 is halved to the size of each reference: two bits for each, that of 0 last.
 const HALVINGS: u64 = 0b01_01_01_01_01_00_01_00_01_00_00_01_01_10_10_11_11_11;
 
-fn by_arms(reference: u32) -> Both<Layout>
+// Of the constant the layouts alone are read; its flat count is promised with them.
+fn abi(reference: u32) -> CanonicalAbiInfo
     requires { reference ≤ 17 }
-    ensures { PlainLayouts reference (layouts_means result) }
+    ensures { Plain reference (abi_means result) }
 {
-    let abi = match reference {
+    match reference {
         0..=2 => CanonicalAbiInfo::SCALAR1,
         3 | 4 => CanonicalAbiInfo::SCALAR2,
         7 | 8 | 10 => CanonicalAbiInfo::SCALAR8,
         STRING => CanonicalAbiInfo::POINTER_PAIR,
         _ => CanonicalAbiInfo::SCALAR4,
-    };
-    abi.layouts()
+    }
+}
+
+fn by_arms(reference: u32) -> Both<Layout>
+    requires { reference ≤ 17 }
+    ensures { PlainLayouts reference (layouts_means result) }
+{
+    abi(reference).layouts()
 }
 
 #[tactic(auto, unfolding(canon::specs::Reach::reach_word))]

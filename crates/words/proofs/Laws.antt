@@ -30,7 +30,7 @@ use lib.Seq.{
   sets,
   sets-eq,
 }
-use Rattle.std.specs.Int.{w32, from_le_bytes, to_le_bytes}
+use Rattle.std.specs.Int.{w32, to_le_bytes}
 use borrow.Rule.Slice.PartMut.{put_mid}
 use Rattle.std.specs.Simd.{first_chunks}
 use Rattle.words.specs.Words.{word_at, words_of, whole_words, put_word, put_words}
@@ -77,10 +77,10 @@ chunk_at (suc k) (suc n) b h = chunk_at k n (drop 4 b) (omega arith) ∙ ap (tak
 
 pub chunk_word :
     (b : List ℕ) (k : ℕ) (c : List ℕ) {cs : List (List ℕ)} → cs ≡ first_chunks 4 (length b / 4) b → k < length b / 4 → c ≡ get_or cs k [] →
-    from_le_bytes w32 c ≡ get_or (whole_words b) k 0
+    get_or c 0 0 + 256 * get_or c 1 0 + 65536 * get_or c 2 0 + 16777216 * get_or c 3 0 ≡ get_or (whole_words b) k 0
 unfolding word_at
 chunk_word b k c e h f =
-    rw (f, e, whole_at b k h, chunk_at k (length b / 4) b h, byte 0 (omega arith), byte 1 (omega arith), byte 2 (omega arith), byte 3 (omega arith), add-zero (4 * k)) (omega arith)
+    rw (f, e, whole_at b k h, chunk_at k (length b / 4) b h, byte 0 (omega arith), byte 1 (omega arith), byte 2 (omega arith), byte 3 (omega arith), add-zero (4 * k))
   where
     byte : (i : ℕ) → i < 4 → get_or (take 4 (drop (4 * k) b)) i 0 ≡ get_or b (4 * k + i) 0
     byte i l = get_or-take 4 (drop (4 * k) b) i 0 l ∙ get_or-drop (4 * k) b i 0

@@ -16,7 +16,7 @@ pub fn word_at(bytes: &[u8], k: usize) -> u32
 {
     let (chunks, _) = bytes.as_chunks::<4>();
     match chunks.get(k) {
-        Some(chunk) => u32::from_le_bytes(*chunk),
+        Some([a, b, c, d]) => from_le_bytes(*a, *b, *c, *d),
         None => 0,
     }
 }
@@ -28,8 +28,8 @@ pub fn words_of(bytes: &[u8], words: &mut [u32]) -> usize
     let (chunks, _) = bytes.as_chunks::<4>();
     let n = chunks.len().min(words.len());
     // A word is stored by its index: of what is written through a zipped `iter_mut` the library's contracts tell nothing afterwards.
-    for (k, chunk) in chunks[..n].iter().enumerate() {
-        words[k] = u32::from_le_bytes(*chunk);
+    for (k, [a, b, c, d]) in chunks[..n].iter().enumerate() {
+        words[k] = from_le_bytes(*a, *b, *c, *d);
     }
     n
 }

@@ -1,7 +1,7 @@
 -- What was read so far is the front of the input; each turn reads at least a byte.
 use Rattle.std.proofs.Common.{length, take, ◌-◌, ◌≤◌, ◌≡◌}
 use Rattle.std.specs.Io.KnownBytes.{Consumes}
-use Rattle.input.proofs.read_full.Given as goal
+use Rattle.lampughjata.proofs.read_full.Given as goal
 
 abbrev pub invariant-loop-count : goal.invariant-loop-count
 invariant-loop-count g l = record {

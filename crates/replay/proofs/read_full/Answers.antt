@@ -5,7 +5,7 @@ use Rattle.std.proofs.Math.Seq.{take-append-add}
 use Rattle.std.proofs.KnownBytes.{Consumes-trans}
 use Rattle.std.specs.Io.KnownBytes.{Consumes}
 use borrow.Rule.Slice.PartMut.{put_mid, post_of}
-use Rattle.input.proofs.read_full.Goals as goal
+use Rattle.replay.proofs.read_full.Goals as goal
 
 front_grows :
     (count k n : ℕ) (bytes part : List ℕ) → count ≤ length bytes → n ≤ length part →
