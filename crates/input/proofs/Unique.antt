@@ -1,4 +1,4 @@
--- Of an input whose bytes are known, two readings into as much room that do not fail answer the same, and leave the same in front and the same to be read.
+-- Of an input whose bytes are known the answer of a reading that does not fail is fixed, and so is what it leaves in front and to be read.
 use Rattle.std.proofs.Common.{◌≡◌, ℕ, ◌+◌, min, ◌<◌, ◌≤◌, List, ◌++◌, length, take, drop, Ok, arith, sym, ap, ◌∙◌, subst, length-append, length-take-le}
 use mathlib.Core.Logic.{◌⊎◌, inl, inr}
 use Rattle.std.specs.Prelude.{None, Some}
@@ -36,14 +36,8 @@ known (Some ys) xs l n fits front end =
     at_front f = ap (λ k. f k xs) (sym long) ∙ ap (f (length (take n l))) front
 
 module _ (T : RattleType) (L : Laws T) (G : Ghosts T.Denot) (D : Dict) (κs : Lfts 3) (input : MutBor T.Denot) (bytes : MutBor (List ℕ)) where
-  abbrev Reads : ℕ → T.Denot → List ℕ → Type 0
-  Reads n rest filled = read-full.Post T L G D κs (input, (bytes, tt)) (Ok n) (at_last input rest, (at_last bytes filled, tt))
-
   pub read_full_one :
-      (xs : List ℕ) (n m : ℕ) (x y : T.Denot) (l k : List ℕ) → G.remaining input.now ≡ Some xs → length l ≡ length k → Reads n x l → Reads m y k →
-      (n ≡ m) × (take n l ≡ take m k) × (G.remaining x ≡ G.remaining y)
-  read_full_one xs n m x y l k e s g h =
-      let a = known (G.remaining x) xs l n g.0 (subst (λ o. Consumes o (G.remaining x) (take n l)) e g.1.0) g.1.1 in
-      let b = known (G.remaining y) xs k m h.0 (subst (λ o. Consumes o (G.remaining y) (take m k)) e h.1.0) h.1.1 in
-      let same : n ≡ m = a.0 ∙ ap (λ (r : ℕ). min r (length xs)) s ∙ sym b.0 in
-      (same, a.1 ∙ ap (λ (i : ℕ). take i xs) same ∙ sym b.1, a.2 ∙ ap (λ (i : ℕ). Some (drop i xs)) same ∙ sym b.2)
+      (xs l : List ℕ) (n : ℕ) (rest : T.Denot) → G.remaining input.now ≡ Some xs →
+      read-full.Post T L G D κs (input, (bytes, tt)) (Ok n) (at_last input rest, (at_last bytes l, tt)) →
+      (n ≡ min (length l) (length xs)) × (take n l ≡ take n xs) × (G.remaining rest ≡ Some (drop n xs))
+  read_full_one xs l n rest e g = known (G.remaining rest) xs l n g.0 (subst (λ o. Consumes o (G.remaining rest) (take n l)) e g.1.0) g.1.1
